@@ -1,0 +1,71 @@
+-- `octets::field::u32_at` meets its contract: a field of four octets is two and then two.
+-- Assumes nothing.
+use Prim.Native.Nat.{_+_}
+use Rattle.octets.proofs.Le.{le-none, le-split}
+use Rattle.octets.proofs.Table.{at}
+use borrow.Author.Needs.{needs}
+use denote.Ref.{now}
+use native.Mathlib.Omega.{arith}
+use Rattle.octets.proofs.field.u32_at.Statement.{statement}
+use Rattle.octets.proofs.field.u32_at.Tie as tie
+
+returns : tie.Need-returns
+returns c = le-none 4 (c .before .before .args .s .now) (c .before .before .args .at) (c .if1 .taken)
+
+sub-if2 : tie.Need-sub-if2
+sub-if2 c = search needs
+
+u16-at-requires : tie.Need-u16-at-requires
+u16-at-requires c κs = search needs
+
+cast-result : tie.Need-cast-result
+cast-result c = search needs
+
+returns-2 : tie.Need-returns-2
+returns-2 c = 
+    let a = c .before .before .before .before .args in
+    omega (arith, le-split 2 2 (a .at) (now (a .s)), le-none 2 (now (a .s)) (a .at + 2) (omega arith), c .u16-at .ensures)
+
+u16-at-requires-2 : tie.Need-u16-at-requires-2
+u16-at-requires-2 c κs = search needs
+
+cast-result-2 : tie.Need-cast-result-2
+cast-result-2 c = search needs
+
+add-u16-at : tie.Need-add-u16-at
+add-u16-at c = search needs
+
+u16-at-requires-3 : tie.Need-u16-at-requires-3
+u16-at-requires-3 c κs = search needs
+
+cast-result-3 : tie.Need-cast-result-3
+cast-result-3 c = search needs
+
+mul-result : tie.Need-mul-result
+mul-result c = search needs
+
+add-result : tie.Need-add-result
+add-result c = search needs
+
+returns-3 : tie.Need-returns-3
+returns-3 c = 
+    let a = c .before .before .before .before .before .args in
+    omega (arith, le-split 2 2 (a .at) (now (a .s)), c .before .u16-at2 .ensures, c .u16-at3 .ensures)
+
+pub u32-at-spec : {M : Type 1} → statement M
+u32-at-spec =
+    tie.close
+    (tie.spec
+    returns
+    sub-if2
+    u16-at-requires
+    cast-result
+    returns-2
+    u16-at-requires-2
+    cast-result-2
+    add-u16-at
+    u16-at-requires-3
+    cast-result-3
+    mul-result
+    add-result
+    returns-3)

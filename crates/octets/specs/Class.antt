@@ -1,0 +1,59 @@
+-- 01, A received frame: "Classes, one fixed list by type and subtype".
+-- Assumes nothing.
+use Prim.Native.Nat.{ℕ, zero, suc}
+use mathlib.Core.Bool.{Bool, true, false}
+use mathlib.Core.List.{List}
+use lib.Dec.{ltb, eqb}
+use Rattle.octets.specs.Pick.{pick}
+use Rattle.octets.specs.Field.{field, versionOf, typeOf, subtypeOf}
+use Rattle.octets.specs.declared.class.FrameClass.{FrameClass}
+use Rattle.octets.specs.declared.class.FrameClass.the-variants.{None, One, Two, Three}
+
+-- Management 0-3 and 10 class 2; 4, 5, 8, 9, 11, 12 class 1; 13, 14 class 3; 6, 7, 15 none.
+abbrev pub management : ℕ → ℕ
+management s =
+    pick (ltb s 4) 2
+    (pick (ltb s 6) 1
+    (pick (ltb s 8) 0
+    (pick (eqb s 10) 2
+    (pick (ltb s 13) 1
+    (pick (ltb s 15) 3 0)))))
+
+-- Control 8, 9, 10 class 3; 11-15 class 1; 0-7 none.
+abbrev pub control : ℕ → ℕ
+control s = pick (ltb s 8) 0 (pick (ltb s 11) 3 1)
+
+-- Data class 3, but 13 none.
+abbrev pub dataClass : ℕ → ℕ
+dataClass s = pick (eqb s 13) 0 3
+
+-- The number of the class, 0 for none, by type and subtype. Type 3 none.
+abbrev pub classNumber : ℕ → ℕ → ℕ
+classNumber t s = pick (eqb t 0) (management s) (pick (eqb t 1) (control s) (pick (eqb t 2) (dataClass s) 0))
+
+-- The number of each class.
+abbrev pub numberOf : FrameClass → ℕ
+numberOf None = 0
+numberOf One = 1
+numberOf Two = 2
+numberOf Three = 3
+
+-- The class that a number names.
+abbrev pub named : ℕ → FrameClass
+named zero = None
+named (suc zero) = One
+named (suc (suc zero)) = Two
+named (suc (suc (suc n))) = Three
+
+abbrev pub classless : FrameClass → Bool
+classless None = true
+classless One = false
+classless Two = false
+classless Three = false
+
+-- The class of a frame, from its octets. 01, A received frame, 2: version not 0, or no class.
+unfoldable pub classOf : List ℕ → FrameClass
+classOf xs =
+    pick (eqb (versionOf (field 1 0 xs)) 0)
+    (named (classNumber (typeOf (field 1 0 xs)) (subtypeOf (field 1 0 xs))))
+    None

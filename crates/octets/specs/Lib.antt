@@ -1,0 +1,11 @@
+pub mod Pick
+pub mod Address
+pub mod Field
+pub mod Class
+pub mod Element
+pub mod Heard
+pub mod Shape
+pub mod Put
+pub mod Frame
+pub mod Read
+pub mod Examples

@@ -1,0 +1,58 @@
+-- A frame's fields, read back from its octets: what the round trip is about.
+-- Assumes nothing.
+use Prim.Native.Nat.{ℕ, _/_, _%_, _<_, _^_}
+use mathlib.Core.Path.{_≡_}
+use mathlib.Core.List.{List}
+use lib.ListN.{take, drop}
+use Rattle.octets.specs.Field.{field}
+use Rattle.octets.specs.declared.frame.Frame.{Frame}
+use Rattle.octets.specs.declared.frame.Body.{Body}
+use Rattle.octets.specs.declared.frame.Body.the-variants.{Authentication, AssociationRequest, ReassociationRequest, Response, Reason}
+use Rattle.octets.specs.declared.heard.Kind.{Kind}
+use Rattle.octets.specs.declared.heard.Kind.the-variants.{Association, Reassociation}
+use Rattle.octets.specs.declared.heard.Heard.{Heard}
+use Rattle.octets.specs.declared.heard.Heard.the-variants as heard
+use Rattle.octets.specs.declared.element.Comeback.the-variants.{Absent}
+
+-- A body of the given one's kind, read from octet 24 on.
+abbrev pub bodyLike : Body → List ℕ → Body
+bodyLike (Authentication a t s) xs = Authentication (field 2 24 xs) (field 2 26 xs) (field 2 28 xs)
+bodyLike (AssociationRequest c) xs = AssociationRequest (field 2 24 xs)
+bodyLike (ReassociationRequest c a) xs = ReassociationRequest (field 2 24 xs) (field 6 28 xs)
+bodyLike (Response c s a) xs = Response (field 2 24 xs) (field 2 26 xs) (field 2 28 xs % 16384)
+bodyLike (Reason r) xs = Reason (field 2 24 xs)
+
+abbrev pub frameLike : Body → List ℕ → Frame
+frameLike b xs =
+    record {
+      subtype = field 2 0 xs / 16;
+      address1 = field 6 4 xs;
+      address2 = field 6 10 xs;
+      address3 = field 6 16 xs;
+      body = bodyLike b xs;
+    }
+
+-- Each field fits the octets that it has, an AID its 14 bits.
+abbrev pub BodyFits : Body → Type 0
+BodyFits (Authentication a t s) = (a < 2 ^ 16) × (t < 2 ^ 16) × (s < 2 ^ 16)
+BodyFits (AssociationRequest c) = c < 2 ^ 16
+BodyFits (ReassociationRequest c a) = (c < 2 ^ 16) × (a < 2 ^ 48)
+BodyFits (Response c s a) = (c < 2 ^ 16) × (s < 2 ^ 16) × (a < 2 ^ 14)
+BodyFits (Reason r) = r < 2 ^ 16
+
+pub record FrameFits (f : Frame) : Type 0 where
+  pub subtype : f .subtype < 16
+  pub address1 : f .address1 < 2 ^ 48
+  pub address2 : f .address2 < 2 ^ 48
+  pub address3 : f .address3 < 2 ^ 48
+  pub body : BodyFits (f .body)
+
+-- Which bodies go with which subtype, and what is heard of each.
+pub data Says : ℕ → Body → Heard → Type 0 where
+  authentication : {a t s : ℕ} → Says 11 (Authentication a t s) (heard.Authentication a t s)
+  association-request : {c : ℕ} → Says 0 (AssociationRequest c) (heard.Request Association 0)
+  reassociation-request : {c a : ℕ} → Says 2 (ReassociationRequest c a) (heard.Request Reassociation a)
+  association-response : {c s a : ℕ} → Says 1 (Response c s a) (heard.Response Association s a Absent)
+  reassociation-response : {c s a : ℕ} → Says 3 (Response c s a) (heard.Response Reassociation s a Absent)
+  deauthentication : {r : ℕ} → Says 12 (Reason r) (heard.Deauthentication r)
+  disassociation : {r : ℕ} → Says 10 (Reason r) (heard.Disassociation r)

@@ -1,0 +1,163 @@
+// The frames that are written, and how: 24 octets of header, then the body.
+ghost use mathlib.Core.Path.{_≡_};
+ghost use mathlib.Core.List.{_++_};
+ghost use Prim.Native.Nat.{_+_, _≤_};
+ghost use lib.ListN.{length};
+ghost use Rattle.octets.specs.Put.{Stored};
+ghost use Rattle.octets.specs.Field.{octets};
+ghost use Rattle.octets.specs.Frame.{aidField, capabilityOf, headOf, bodyOf, bytesOf, writtenOf, lengthOf};
+
+pub enum Body {
+    Authentication {
+        algorithm: u16,
+        transaction: u16,
+        status: u16,
+    },
+    AssociationRequest {
+        capability: u16,
+    },
+    ReassociationRequest {
+        capability: u16,
+        current: u64,
+    },
+    // A (re)association response.
+    Response {
+        capability: u16,
+        status: u16,
+        aid: u16,
+    },
+    // Deauthentication or disassociation.
+    Reason(u16),
+}
+
+pub struct Frame {
+    pub subtype: u8,
+    pub address1: u64,
+    pub address2: u64,
+    pub address3: u64,
+    pub body: Body,
+}
+
+impl Frame {
+    // The standard's management subtypes.
+    pub const ASSOCIATION_REQUEST: u8 = 0;
+
+    pub const ASSOCIATION_RESPONSE: u8 = 1;
+
+    pub const REASSOCIATION_REQUEST: u8 = 2;
+
+    pub const REASSOCIATION_RESPONSE: u8 = 3;
+
+    pub const DISASSOCIATION: u8 = 10;
+
+    pub const AUTHENTICATION: u8 = 11;
+
+    pub const DEAUTHENTICATION: u8 = 12;
+
+    pub const LISTEN_INTERVAL: u16 = 10;
+}
+
+// The capability field: ESS, and privacy where RSNA is required.
+pub fn capability(rsna: u8) -> u16
+    ensures { λ r. ⌜ r ≡ capabilityOf rsna ⌝ }
+{
+    if rsna == 1 { 0x0011 } else { 0x0001 }
+}
+
+// The AID field: the AID with its two top bits set; 0 is written as 0.
+fn aid_field(aid: u16) -> u16
+    ensures { λ r. ⌜ r ≡ aidField aid ⌝ }
+{
+    if aid == 0 { 0 } else { aid % 16384 + 49152 }
+}
+
+fn put_u16(out: &mut [u8], at: usize, v: u16)
+    requires { ⌜ at + 2 ≤ length (now out) ⌝ }
+    ensures { λ _. ⌜ Stored (now (out .entry)) at (octets 2 v) (now (out .exit)) ⌝ }
+{
+    out[at] = (v % 256) as u8;
+    out[at + 1] = (v / 256 % 256) as u8;
+}
+
+fn put_address(out: &mut [u8], at: usize, v: u64)
+    requires { ⌜ at + 6 ≤ length (now out) ⌝ }
+    ensures { λ _. ⌜ Stored (now (out .entry)) at (octets 6 v) (now (out .exit)) ⌝ }
+{
+    out[at] = (v % 256) as u8;
+    out[at + 1] = (v / 256 % 256) as u8;
+    out[at + 2] = (v / 256 / 256 % 256) as u8;
+    out[at + 3] = (v / 256 / 256 / 256 % 256) as u8;
+    out[at + 4] = (v / 256 / 256 / 256 / 256 % 256) as u8;
+    out[at + 5] = (v / 256 / 256 / 256 / 256 / 256 % 256) as u8;
+}
+
+fn put_head(out: &mut [u8], f: Frame)
+    requires { ⌜ 24 ≤ length (now out) ⌝ }
+    ensures { λ _. ⌜ Stored (now (out .entry)) 0 (headOf f) (now (out .exit)) ⌝ }
+{
+    put_u16(out, 0, (f.subtype % 16 * 16) as u16);
+    put_u16(out, 2, 0);
+    put_address(out, 4, f.address1);
+    put_address(out, 10, f.address2);
+    put_address(out, 16, f.address3);
+    put_u16(out, 22, 0);
+}
+
+fn put_body(out: &mut [u8], b: Body) -> u16
+    requires { ⌜ 34 ≤ length (now out) ⌝ }
+    ensures { λ r. ⌜ (r ≡ 24 + length (bodyOf b)) × (Stored (now (out .entry)) 24 (bodyOf b) (now (out .exit))) ⌝ }
+{
+    match b {
+        Body::Authentication {
+            algorithm,
+            transaction,
+            status,
+        } => {
+            put_u16(out, 24, algorithm);
+            put_u16(out, 26, transaction);
+            put_u16(out, 28, status);
+            30
+        }
+        Body::AssociationRequest { capability } => {
+            put_u16(out, 24, capability);
+            put_u16(out, 26, Frame::LISTEN_INTERVAL);
+            28
+        }
+        Body::ReassociationRequest {
+            capability,
+            current,
+        } => {
+            put_u16(out, 24, capability);
+            put_u16(out, 26, Frame::LISTEN_INTERVAL);
+            put_address(out, 28, current);
+            34
+        }
+        Body::Response {
+            capability,
+            status,
+            aid,
+        } => {
+            put_u16(out, 24, capability);
+            put_u16(out, 26, status);
+            put_u16(out, 28, aid_field(aid));
+            30
+        }
+        Body::Reason(reason) => {
+            put_u16(out, 24, reason);
+            26
+        }
+    }
+}
+
+// Writes a frame at the front of the buffer and gives its length. A buffer under 34 octets, the longest frame's length,
+// stays as it was, and the answer is 0.
+pub fn write(out: &mut [u8], f: Frame) -> u16
+    ensures { λ r. ⌜ (r ≡ lengthOf f (length (now (out .entry)))) × (now (out .exit) ≡ writtenOf f (now (out .entry))) ⌝ }
+{
+    if out.len() < 34 {
+        return 0;
+    }
+    put_head(out, f);
+    let body = f.body;
+    put_body(out, body)
+}

@@ -1,0 +1,8 @@
+// Octets and classes: addresses, fields, frame classes, elements, what a frame says and how one is written. No state, no role.
+pub mod address;
+pub mod class;
+pub mod element;
+pub mod field;
+pub mod frame;
+pub mod heard;
+pub mod shape;
