@@ -1,0 +1,186 @@
+/* main.c - the bench program of the independent core: records on standard input, lines on standard output.
+ *
+ * cc -std=c11 -O2 -Wall -Wextra -Wpedantic -Wconversion -Wshadow -Werror -o independent *.c
+ *
+ * Without arguments: one line for each event. With -v: trace lines after each event's line
+ * (README.md). Exit status 0, also after `stop`; 1 on a read or write error; 2 on other arguments.
+ */
+#include "rules.h"
+
+#include <inttypes.h>
+#include <signal.h>
+#include <stdio.h>
+#include <string.h>
+
+enum { HEADER = 5, SCRATCH = 256, OUTPUT_BUFFER = 1 << 16 };
+enum record_kind { SETTINGS = 0, PRIMITIVE = 1, FRAME = 2, CLOCK = 3 };
+enum got { GOT_RECORD, GOT_END, GOT_FAULT, GOT_READ_ERROR };
+
+struct input {
+    unsigned kind;
+    size_t length;
+    uint8_t body[PT_FRAME_MAX];
+};
+
+struct bench {
+    struct pt_settings settings;
+    struct pt_record table[PT_PLACES];
+    uint8_t scratch[SCRATCH];
+    uint64_t events;
+};
+
+/* The length each kind of record must have: 12, 9, a frame of 0 to 4,096, 2. */
+static bool length_fits(unsigned kind, size_t length)
+{
+    switch (kind) {
+    case SETTINGS:
+        return length == 12;
+    case PRIMITIVE:
+        return length == 9;
+    case FRAME:
+        return length <= PT_FRAME_MAX;
+    case CLOCK:
+        return length == 2;
+    default:
+        return false;
+    }
+}
+
+/* Reads one record: mark 0B 03, kind, length, body. Settings come first and only there. */
+static enum got read_record(struct input *in, bool first)
+{
+    uint8_t head[HEADER];
+    size_t n = fread(head, 1, HEADER, stdin);
+
+    if (n < HEADER)
+        return ferror(stdin) ? GOT_READ_ERROR : n == 0 ? GOT_END : GOT_FAULT;
+    in->kind = head[2];
+    in->length = pt_get16(head + 3);
+    if (head[0] != 0x0B || head[1] != 0x03 || (in->kind == SETTINGS) != first ||
+        !length_fits(in->kind, in->length))
+        return GOT_FAULT;
+    if (fread(in->body, 1, in->length, stdin) < in->length)
+        return ferror(stdin) ? GOT_READ_ERROR : GOT_FAULT;
+    return GOT_RECORD;
+}
+
+/* Role, own address, RSNA, authentication and association timeouts; out of range is no fault here. */
+static void take_settings(struct pt_settings *s, const uint8_t *body)
+{
+    s->role = body[0];
+    s->own = pt_get48(body + 1);
+    s->rsna = body[7];
+    s->auth_timeout = pt_get16(body + 8);
+    s->assoc_timeout = pt_get16(body + 10);
+}
+
+/* One event, with 256 zero bytes of scratch. */
+static struct pt_answer run(struct bench *b, const struct input *in)
+{
+    memset(b->scratch, 0, SCRATCH);
+    if (in->kind == PRIMITIVE)
+        return pt_ask(&b->settings, b->table, in->body[0], pt_get48(in->body + 1),
+                      pt_get16(in->body + 7), b->scratch, SCRATCH);
+    if (in->kind == FRAME)
+        return pt_receive(&b->settings, b->table, in->body, in->length, b->scratch, SCRATCH);
+    return pt_clock(&b->settings, b->table, pt_get16(in->body), b->scratch, SCRATCH);
+}
+
+static void print_line(uint64_t event, const struct pt_answer *a)
+{
+    printf("%" PRIu64 " %u %c %u %u %u %c %u\n", event, (unsigned)a->refusal, "-AD"[a->verdict],
+           (unsigned)a->notice, (unsigned)a->code, (unsigned)a->written, "-JL"[a->ds],
+           (unsigned)a->state);
+}
+
+/* Lowercase hexadecimal, no separators; at most a whole scratch. */
+static void print_octets(const uint8_t *p, size_t n)
+{
+    static const char digits[] = "0123456789abcdef";
+    char text[2 * SCRATCH];
+
+    for (size_t i = 0; i < n; i++) {
+        text[2 * i] = digits[p[i] >> 4];
+        text[2 * i + 1] = digits[p[i] & 15];
+    }
+    fwrite(text, 2, n, stdout);
+}
+
+static void print_address(uint64_t address)
+{
+    uint8_t octets[6];
+
+    pt_put48(octets, address);
+    print_octets(octets, sizeof octets);
+}
+
+/* The trace: octets written, the current AP of a reassociation indication, places not free. */
+static void print_trace(const struct bench *b, const struct pt_answer *a)
+{
+    if (a->written > 0) {
+        printf("  octets ");
+        print_octets(b->scratch, a->written);
+        putchar('\n');
+    }
+    if (a->notice == PT_REASSOC_INDICATION) {
+        printf("  current ");
+        print_address(a->current);
+        putchar('\n');
+    }
+    for (int i = 0; i < PT_PLACES; i++) {
+        const struct pt_record *r = &b->table[i];
+        unsigned exchange = r->phase == PT_NONE ? 0 : (r->phase - 1u) * 3 + r->kind;
+
+        if (r->state == 0)
+            continue;
+        printf("  place %d ", i);
+        print_address(r->address);
+        printf(" %u %u %" PRIu32 " %" PRIu32 "\n", (unsigned)r->state, exchange, r->left, r->hold);
+    }
+}
+
+/* Takes records one after the other until the input ends, faults, or output fails. */
+static int bench(bool trace)
+{
+    static struct input in;
+    struct bench b = { 0 };
+    enum got got = read_record(&in, true);
+
+    if (got == GOT_RECORD) {
+        take_settings(&b.settings, in.body);
+        while (!ferror(stdout) && (got = read_record(&in, false)) == GOT_RECORD) {
+            struct pt_answer a = run(&b, &in);
+
+            print_line(++b.events, &a);
+            if (trace)
+                print_trace(&b, &a);
+        }
+    }
+    if (got == GOT_FAULT)
+        puts("stop");
+    if (got == GOT_READ_ERROR)
+        fputs("independent: cannot read standard input\n", stderr);
+    return got == GOT_READ_ERROR ? 1 : 0;
+}
+
+int main(int argc, char **argv)
+{
+    static char buffer[OUTPUT_BUFFER];
+    bool trace = argc == 2 && strcmp(argv[1], "-v") == 0;
+    int status;
+
+    if (argc > 1 && !trace) {
+        fputs("independent: the only argument allowed is -v\n", stderr);
+        return 2;
+    }
+#ifdef SIGPIPE
+    signal(SIGPIPE, SIG_IGN); /* a closed pipe is a write error, not a silent end */
+#endif
+    setvbuf(stdout, buffer, _IOFBF, sizeof buffer);
+    status = bench(trace);
+    if (ferror(stdout) | fclose(stdout)) {
+        fputs("independent: cannot write standard output\n", stderr);
+        return 1;
+    }
+    return status;
+}
