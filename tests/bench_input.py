@@ -1,0 +1,156 @@
+"""Bench records and 802.11 frames as bytes: the one place where tests lay out input.
+
+Addresses are given as text ('02:00:00:00:00:0a'), as six octets, or as a number whose
+lowest octet is the first one sent. Every number in a record or frame is little-endian.
+Nothing here checks a rule: a caller may ask for any field value that fits its octets.
+"""
+
+MARK = b"\x0b\x03"
+SETTINGS, PRIMITIVE, FRAME, CLOCK = 0, 1, 2, 3
+ACCESS_POINT, STATION = 1, 2
+
+MANAGEMENT, CONTROL, DATA, EXTENSION = 0, 1, 2, 3
+ASSOCIATION_REQUEST, ASSOCIATION_RESPONSE = 0, 1
+REASSOCIATION_REQUEST, REASSOCIATION_RESPONSE = 2, 3
+DISASSOCIATION, AUTHENTICATION, DEAUTHENTICATION = 10, 11, 12
+PS_POLL, RTS, CTS, ACK = 10, 11, 12, 13
+
+TIMEOUT_INTERVAL = 56
+COMEBACK = 3
+LONGEST_FRAME = 4096
+BROADCAST = b"\xff" * 6
+ZERO = bytes(6)
+
+
+def address(given):
+    """Six octets from text, a number, or six octets."""
+    if isinstance(given, bytes):
+        if len(given) != 6:
+            raise ValueError(f"an address has six octets, not {len(given)}")
+        return given
+    if isinstance(given, int):
+        return given.to_bytes(6, "little")
+    octets = bytes(int(part, 16) for part in given.split(":"))
+    return address(octets)
+
+
+def address_text(octets):
+    """The text form of six octets."""
+    return ":".join(f"{octet:02x}" for octet in octets)
+
+
+def number(value, octets=2):
+    """A little-endian field."""
+    return value.to_bytes(octets, "little")
+
+
+# Bench records
+
+def record(kind, body, length=None, mark=MARK):
+    """Any record; length and mark may be given wrong on purpose."""
+    return mark + bytes((kind,)) + number(len(body) if length is None else length) + body
+
+
+def settings(role, own, rsna=0, authentication_timeout=100, association_timeout=100):
+    timeouts = number(authentication_timeout) + number(association_timeout)
+    return record(SETTINGS, bytes((role,)) + address(own) + bytes((rsna,)) + timeouts)
+
+
+def primitive(which, peer, code=0):
+    return record(PRIMITIVE, bytes((which,)) + address(peer) + number(code))
+
+
+def frame(octets):
+    return record(FRAME, octets)
+
+
+def clock(step):
+    return record(CLOCK, number(step))
+
+
+# Elements
+
+def element(identifier, contents=b"", length=None):
+    """One element; a length other than that of the contents makes it odd or cut."""
+    return bytes((identifier, len(contents) if length is None else length)) + contents
+
+
+def timeout_interval(value, kind=COMEBACK):
+    return element(TIMEOUT_INTERVAL, bytes((kind,)) + number(value, 4))
+
+
+# Frames: the receiver is Address 1, the sender Address 2
+
+def frame_control(kind, subtype, version=0, to_ds=0, from_ds=0, flags=0):
+    """Flags are the second octet's bits above To DS and From DS, already in their places."""
+    return bytes((version | kind << 2 | subtype << 4, to_ds | from_ds << 1 | flags))
+
+
+def control(subtype, receiver, sender=None, duration=0, version=0):
+    """A control frame; CTS and ACK have no sender."""
+    octets = frame_control(CONTROL, subtype, version) + number(duration) + address(receiver)
+    return octets if sender is None else octets + address(sender)
+
+
+def header(control_octets, receiver, sender, third=None, duration=0, sequence=0):
+    """The 24 octets of a management or data frame; Address 3 is the receiver if not given."""
+    receiver = address(receiver)
+    third = receiver if third is None else address(third)
+    return control_octets + number(duration) + receiver + address(sender) + third + number(sequence)
+
+
+def management(subtype, receiver, sender, body=b"", third=None, version=0):
+    return header(frame_control(MANAGEMENT, subtype, version), receiver, sender, third) + body
+
+
+def data(receiver, sender, body=b"", subtype=0, to_ds=1, from_ds=0, version=0):
+    octets = frame_control(DATA, subtype, version, to_ds, from_ds)
+    return header(octets, receiver, sender) + body
+
+
+def authentication(receiver, sender, transaction=1, status=0, algorithm=0, rest=b""):
+    body = number(algorithm) + number(transaction) + number(status) + rest
+    return management(AUTHENTICATION, receiver, sender, body)
+
+
+def association_request(receiver, sender, capability=1, listen_interval=10, elements=b""):
+    body = number(capability) + number(listen_interval) + elements
+    return management(ASSOCIATION_REQUEST, receiver, sender, body)
+
+
+def reassociation_request(receiver, sender, current_ap, capability=1, listen_interval=10,
+                          elements=b""):
+    body = number(capability) + number(listen_interval) + address(current_ap) + elements
+    return management(REASSOCIATION_REQUEST, receiver, sender, body)
+
+
+def _response(subtype, receiver, sender, status, aid, capability, elements):
+    body = number(capability) + number(status) + number(aid) + elements
+    return management(subtype, receiver, sender, body, third=sender)
+
+
+def association_response(receiver, sender, status=0, aid=0xC001, capability=1, elements=b""):
+    return _response(ASSOCIATION_RESPONSE, receiver, sender, status, aid, capability, elements)
+
+
+def reassociation_response(receiver, sender, status=0, aid=0xC001, capability=1, elements=b""):
+    return _response(REASSOCIATION_RESPONSE, receiver, sender, status, aid, capability, elements)
+
+
+def deauthentication(receiver, sender, reason=3, rest=b""):
+    return management(DEAUTHENTICATION, receiver, sender, number(reason) + rest)
+
+
+def disassociation(receiver, sender, reason=8, rest=b""):
+    return management(DISASSOCIATION, receiver, sender, number(reason) + rest)
+
+
+def any_frame(kind, subtype, receiver, sender, length, fill=b"\0", version=0, ds=0, flags=0):
+    """A frame of any type, subtype and length: the usual header, then the fill over and over,
+    all cut to the length. ds holds To DS in bit 0 and From DS in bit 1."""
+    octets = frame_control(kind, subtype, version, ds & 1, ds >> 1, flags)
+    octets = header(octets, receiver, sender)
+    short = length - len(octets)
+    if short > 0:
+        octets += fill * (short // len(fill) + 1)
+    return octets[:length]
