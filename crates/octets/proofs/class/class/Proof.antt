@@ -45,25 +45,25 @@ entry-requires c κs = search needs
 
 returns-2 : tie.Need-returns-2
 unfolding classOf
-returns-2 c = 
+returns-2 c =
     rw (← c .before .before .before .octet-at .ensures, eq-eqb _ _ (c .before .before .if1 .left))
     (ap named (sym (c .match .keys1) ∙ c .before .entry .ensures ∙ apart (c .before .before .before .octet-at .result) (omega arith)))
 
 returns-3 : tie.Need-returns-3
 unfolding classOf
-returns-3 c = 
+returns-3 c =
     rw (← c .before .before .before .octet-at .ensures, eq-eqb _ _ (c .before .before .if1 .left))
     (ap named (sym (c .match .keys2) ∙ c .before .entry .ensures ∙ apart (c .before .before .before .octet-at .result) (omega arith)))
 
 returns-4 : tie.Need-returns-4
 unfolding classOf
-returns-4 c = 
+returns-4 c =
     rw (← c .before .before .before .octet-at .ensures, eq-eqb _ _ (c .before .before .if1 .left))
     (ap named (sym (c .match .keys3) ∙ c .before .entry .ensures ∙ apart (c .before .before .before .octet-at .result) (omega arith)))
 
 returns-5 : tie.Need-returns-5
 unfolding classOf
-returns-5 c = 
+returns-5 c =
     rw (← c .before .before .before .octet-at .ensures, eq-eqb _ _ (c .before .before .if1 .left))
     (rest _ (c .match .rest .0 .0 .1) (c .match .rest .0 .1) (c .match .rest .1) ∙ ap named (c .before .entry .ensures ∙ apart (c .before .before .before .octet-at .result) (omega arith)))
 

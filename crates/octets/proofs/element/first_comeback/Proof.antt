@@ -25,7 +25,7 @@ sub-if1 : tie.Need-sub-if1 Inv-loop μ-loop
 sub-if1 c = omega arith
 
 returns : tie.Need-returns Inv-loop μ-loop
-returns c = 
+returns c =
     let l = c .before .before in
     walk-one (l .before .before .args .s .now) (l .loop .at) (c .before .loop-test .taken) (c .if1 .taken) ∙ l .loop .inv
 
@@ -45,7 +45,7 @@ sub-if2-2 : tie.Need-sub-if2-2 Inv-loop μ-loop
 sub-if2-2 c = omega arith
 
 returns-2 : tie.Need-returns-2 Inv-loop μ-loop
-returns-2 c = 
+returns-2 c =
     let l = c .before .before .before .before in
     walk-cut (l .before .before .args .s .now) (l .loop .at) (omega arith) (c .if2 .taken) ∙ l .loop .inv
 
@@ -53,7 +53,7 @@ wanted-requires : tie.Need-wanted-requires Inv-loop μ-loop
 wanted-requires c κs = omega arith
 
 add-u32-at : tie.Need-add-u32-at Inv-loop μ-loop
-add-u32-at c = 
+add-u32-at c =
     let l = c .before .before .before .before .before .before in
     let s = l .before .before .args .s .now in
     omega (arith, wanted-five (drop (l .loop .at) s) (getD s (l .loop .at + 1) 0) (sym (c .before .wanted .ensures) ∙ c .if3 .taken))
@@ -62,7 +62,7 @@ u32-at-requires : tie.Need-u32-at-requires Inv-loop μ-loop
 u32-at-requires c κs = omega arith
 
 returns-3 : tie.Need-returns-3 Inv-loop μ-loop
-returns-3 c = 
+returns-3 c =
     let w = c .before .before in
     let l = w .before .before .before .before .before in
     ap Given (c .u32-at .ensures)
@@ -79,7 +79,7 @@ loop-less : tie.Need-loop-less Inv-loop μ-loop
 loop-less c = omega arith
 
 loop-again : tie.Need-loop-again Inv-loop μ-loop
-loop-again c = 
+loop-again c =
     let l = c .before .before .before .before .before .before in
     walk-next (l .before .before .args .s .now) (l .loop .at) (omega arith) (sym (c .before .wanted .ensures) ∙ c .if3 .left) ∙ l .loop .inv
 

@@ -22,7 +22,7 @@ cast-result : tie.Need-cast-result
 cast-result c = search needs
 
 returns-2 : tie.Need-returns-2
-returns-2 c = 
+returns-2 c =
     let a = c .before .before .before .before .args in
     omega (arith, le-split 4 2 (a .at) (now (a .s)), le-none 2 (now (a .s)) (a .at + 4) (omega arith), c .u32-at .ensures)
 
@@ -48,7 +48,7 @@ add-result : tie.Need-add-result
 add-result c = search needs
 
 returns-3 : tie.Need-returns-3
-returns-3 c = 
+returns-3 c =
     let a = c .before .before .before .before .before .args in
     omega (arith, le-split 4 2 (a .at) (now (a .s)), c .before .u32-at2 .ensures, c .u16-at .ensures)
 

@@ -33,7 +33,7 @@ add-result : tie.Need-add-result
 add-result c = search needs
 
 returns-2 : tie.Need-returns-2
-returns-2 c = 
+returns-2 c =
     let a = c .before .before .before .before .args in
     omega (arith, le-split 1 1 (a .at) (now (a .s)), c .before .octet-at .ensures, c .octet-at2 .ensures)
 

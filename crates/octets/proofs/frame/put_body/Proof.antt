@@ -67,7 +67,7 @@ same-length c = search needs
 
 returns : tie.Need-returns
 unfolding octets bodyOf
-returns c = 
+returns c =
     let p3 = c .before .before in
     let p2 = p3 .before .before .before .before in
     let p1 = p2 .before .before .before .before in
@@ -78,7 +78,7 @@ same-length-2 c = search needs
 
 returns-2 : tie.Need-returns-2
 unfolding octets bodyOf
-returns-2 c = 
+returns-2 c =
     let p2 = c .before .before in
     let p1 = p2 .before .before .before .before in
     rw (p1 .before .before .before .b2 .given .1) (refl, (then (p1 .put-u164 .ensures) (p2 .put-u165 .ensures) refl))
@@ -88,7 +88,7 @@ same-length-3 c = search needs
 
 returns-3 : tie.Need-returns-3
 unfolding octets bodyOf
-returns-3 c = 
+returns-3 c =
     let p3 = c .before .before in
     let p2 = p3 .before .before .before .before in
     let p1 = p2 .before .before .before .before in
@@ -99,7 +99,7 @@ same-length-4 c = search needs
 
 returns-4 : tie.Need-returns-4
 unfolding octets bodyOf
-returns-4 c = 
+returns-4 c =
     let p3 = c .before .before in
     let p2 = p3 .before .before .before .before .before in
     let p1 = p2 .before .before .before .before in
@@ -111,7 +111,7 @@ same-length-5 c = search needs
 
 returns-5 : tie.Need-returns-5
 unfolding octets bodyOf
-returns-5 c = 
+returns-5 c =
     let p1 = c .before .before in
     rw (p1 .before .before .before .b5 .given .1) (refl, (p1 .put-u1611 .ensures))
 

@@ -37,7 +37,7 @@ same-length c = search needs
 
 returns : tie.Need-returns
 unfolding octets headOf
-returns c = 
+returns c =
     let p6 = c .before .before in
     let p5 = p6 .before .before .before .before in
     let p4 = p5 .before .before .before .before in

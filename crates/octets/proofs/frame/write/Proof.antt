@@ -25,13 +25,14 @@ same-length c = search needs
 
 returns-2 : tie.Need-returns-2
 unfolding lengthOf writtenOf bytesOf
-returns-2 c = 
+returns-2 c =
     let b = c .before .before in
     let h = b .before .before .before .before in
     let a = c .before .before .before .before .before .before .before .before .before .before .args in
-    rw (le-ltb _ _ (c .before .before .before .before .before .before .before .before .if1 .left))
-    (b .put-body .ensures .0 ∙ sym (bytes-length (a .f)),
-      front (then (h .put-head .ensures) (b .put-body .ensures .1) (omega (arith, head-length (a .f)))) (omega (arith, bytes-length (a .f), body-short (a .f .body))))
+    rw (le-ltb _ _ (c .before .before .before .before .before .before .before .before .if1 .left)) (
+      b .put-body .ensures .0 ∙ sym (bytes-length (a .f)),
+      front (then (h .put-head .ensures) (b .put-body .ensures .1) (omega (arith, head-length (a .f)))) (omega (arith, bytes-length (a .f), body-short (a .f .body))),
+    )
 
 pub write-spec : {M : Type 1} → statement M
 write-spec = tie.close (tie.spec returns put-head-requires put-body-requires same-length returns-2)

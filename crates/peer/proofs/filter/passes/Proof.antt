@@ -1,0 +1,35 @@
+-- `peer::filter::passes` meets its contract: each arm by its case.
+-- Assumes nothing.
+use Rattle.octets.proofs.Branch.{tests}
+use borrow.Author.Needs.{needs}
+use Rattle.peer.proofs.filter.passes.Statement.{statement}
+use Rattle.peer.proofs.filter.passes.Tie as tie
+
+enum-told : tie.Need-enum-told
+enum-told c = search needs
+
+enum-told-2 : tie.Need-enum-told-2
+enum-told-2 c = search needs
+
+enum-told-3 : tie.Need-enum-told-3
+enum-told-3 c = search needs
+
+enum-told-4 : tie.Need-enum-told-4
+enum-told-4 c = search needs
+
+returns : tie.Need-returns
+returns c = search needs
+
+returns-2 : tie.Need-returns-2
+returns-2 c = search needs
+
+returns-3 : tie.Need-returns-3
+returns-3 c = search (tests, c .enum-told3 .given .1)
+
+returns-4 : tie.Need-returns-4
+returns-4 c = search (tests, c .enum-told4 .given .1)
+
+pub passes-spec : {M : Type 1} → statement M
+passes-spec =
+    tie.close
+    (tie.spec enum-told enum-told-2 enum-told-3 enum-told-4 returns returns-2 returns-3 returns-4)

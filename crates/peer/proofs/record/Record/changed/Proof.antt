@@ -1,0 +1,13 @@
+-- `peer::record::Record::changed` meets its contract: by its fields.
+-- Assumes nothing.
+use Rattle.octets.proofs.Branch.{tests}
+use Rattle.peer.specs.Record.{changedOf}
+use Rattle.peer.proofs.record.Record.changed.Statement.{statement}
+use Rattle.peer.proofs.record.Record.changed.Tie as tie
+
+returns : tie.Need-returns
+unfolding changedOf
+returns c = search tests
+
+pub changed-spec : {M : Type 1} → statement M
+changed-spec = tie.close (tie.spec returns)

@@ -1,0 +1,34 @@
+-- `peer::record::Record::is_free` meets its contract: each answer by the tests that led to it.
+-- Assumes nothing.
+use Rattle.octets.proofs.Branch.{tests}
+use Rattle.peer.specs.Record.{isFree}
+use borrow.Author.Needs.{needs}
+use Rattle.peer.proofs.record.Record.is_free.Statement.{statement}
+use Rattle.peer.proofs.record.Record.is_free.Tie as tie
+
+returns : tie.Need-returns
+unfolding isFree
+returns c = search tests
+
+returns-2 : tie.Need-returns-2
+unfolding isFree
+returns-2 c = search tests
+
+returns-3 : tie.Need-returns-3
+unfolding isFree
+returns-3 c = search tests
+
+returns-4 : tie.Need-returns-4
+unfolding isFree
+returns-4 c = search tests
+
+under-way-requires : tie.Need-under-way-requires
+under-way-requires c κs = search needs
+
+returns-5 : tie.Need-returns-5
+unfolding isFree
+returns-5 c = search (tests, ← c .under-way .ensures)
+
+pub is-free-spec : {M : Type 1} → statement M
+is-free-spec =
+    tie.close (tie.spec returns returns-2 returns-3 returns-4 under-way-requires returns-5)

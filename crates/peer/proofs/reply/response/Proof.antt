@@ -1,0 +1,24 @@
+-- `peer::reply::response` meets its contract: by what its callees ensure.
+-- Assumes nothing.
+use Rattle.octets.proofs.Branch.{tests}
+use Rattle.peer.specs.Reply.{responseTo}
+use borrow.Author.Needs.{needs}
+use Rattle.peer.proofs.reply.response.Statement.{statement}
+use Rattle.peer.proofs.reply.response.Tie as tie
+
+response-subtype-requires : tie.Need-response-subtype-requires
+response-subtype-requires c κs = search needs
+
+capability-requires : tie.Need-capability-requires
+capability-requires c κs = search needs
+
+send-requires : tie.Need-send-requires
+send-requires c κs = search needs
+
+returns : tie.Need-returns
+unfolding responseTo
+returns c = search (tests, ← c .send .ensures, ← c .before .capability .ensures, ← c .before .before .response-subtype .ensures)
+
+pub response-spec : {M : Type 1} → statement M
+response-spec =
+    tie.close (tie.spec response-subtype-requires capability-requires send-requires returns)

@@ -1,0 +1,17 @@
+-- `peer::reply::send` meets its contract: by its fields.
+-- Assumes nothing.
+use Rattle.octets.proofs.Branch.{tests}
+use Rattle.peer.specs.Reply.{sendOf}
+use borrow.Author.Needs.{needs}
+use Rattle.peer.proofs.reply.send.Statement.{statement}
+use Rattle.peer.proofs.reply.send.Tie as tie
+
+ap-address-requires : tie.Need-ap-address-requires
+ap-address-requires c κs = search needs
+
+returns : tie.Need-returns
+unfolding sendOf
+returns c = search (tests, ← c .ap-address .ensures)
+
+pub send-spec : {M : Type 1} → statement M
+send-spec = tie.close (tie.spec ap-address-requires returns)

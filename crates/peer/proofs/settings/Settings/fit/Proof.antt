@@ -1,0 +1,38 @@
+-- `peer::settings::Settings::fit` meets its contract: each answer by the tests that led to it.
+-- Assumes nothing.
+use Rattle.octets.proofs.Branch.{tests}
+use Rattle.peer.specs.Settings.{settingsFit}
+use borrow.Author.Needs.{needs}
+use Rattle.peer.proofs.settings.Settings.fit.Statement.{statement}
+use Rattle.peer.proofs.settings.Settings.fit.Tie as tie
+
+returns : tie.Need-returns
+unfolding settingsFit
+returns c = search tests
+
+returns-2 : tie.Need-returns-2
+unfolding settingsFit
+returns-2 c = search tests
+
+returns-3 : tie.Need-returns-3
+unfolding settingsFit
+returns-3 c = search tests
+
+returns-4 : tie.Need-returns-4
+unfolding settingsFit
+returns-4 c = search tests
+
+returns-5 : tie.Need-returns-5
+unfolding settingsFit
+returns-5 c = search tests
+
+valid-requires : tie.Need-valid-requires
+valid-requires c κs = search needs
+
+returns-6 : tie.Need-returns-6
+unfolding settingsFit
+returns-6 c = search (tests, ← c .valid .ensures)
+
+pub fit-spec : {M : Type 1} → statement M
+fit-spec =
+    tie.close (tie.spec returns returns-2 returns-3 returns-4 returns-5 valid-requires returns-6)

@@ -1,0 +1,49 @@
+-- 01, A received frame, 6: the class filter. p is the peer's record, fresh where it has none: "A peer without a record counts as State 1."
+-- Assumes nothing.
+use Prim.Native.Nat.{ℕ}
+use mathlib.Core.Bool.{Bool, true, false}
+use lib.Dec.{leb, eqb}
+use Rattle.octets.specs.Pick.{pick}
+use Rattle.octets.specs.declared.class.FrameClass.{FrameClass}
+use Rattle.octets.specs.declared.class.FrameClass.the-variants as class
+use Rattle.octets.specs.declared.heard.Heard.{Heard}
+use Rattle.octets.specs.declared.heard.Heard.the-variants as heard
+use Rattle.octets.specs.declared.heard.Kind.{Kind}
+use Rattle.peer.specs.Settings.{ap}
+use Rattle.peer.specs.Reply.{deauthenticationTo, disassociationTo, responseTo}
+use Rattle.peer.specs.declared.settings.Settings.{Settings}
+use Rattle.peer.specs.declared.record.Record.{Record}
+use Rattle.peer.specs.declared.reply.Reply.{Reply}
+use Rattle.peer.specs.declared.reply.Reply.the-variants.{Silent}
+
+-- 6. "Class 1 passes, class 2 in State 2 and above, class 3 in State 3 and above (001)."
+abbrev pub passesOf : FrameClass → ℕ → Bool
+passesOf class.None state = false
+passesOf class.One state = true
+passesOf class.Two state = leb 2 state
+passesOf class.Three state = leb 3 state
+
+-- "class 2, Deauthentication reason 6; class 3 in State 1, Deauthentication reason 7; class 3 in State 2, Disassociation reason 7"
+abbrev pub filteredOf : Settings → Record → FrameClass → Reply
+filteredOf s p class.None = Silent
+filteredOf s p class.One = Silent
+filteredOf s p class.Two = deauthenticationTo s (p .address) 6
+filteredOf s p class.Three =
+    pick (eqb (p .state) 1) (deauthenticationTo s (p .address) 7) (disassociationTo s (p .address) 7)
+
+-- "Exception (000): an AP replies to an individually addressed (re)association request in State 1 with the matching response, status 1,
+-- AID 0". (Of class 2, it is kept out in State 1 only.)
+unfoldable pub requestBarred : Settings → Record → FrameClass → Kind → Reply
+requestBarred s p k kind = pick (eqb (s .role) ap) (responseTo s (p .address) kind 1 0) (filteredOf s p k)
+
+abbrev pub barredBy : Settings → Record → FrameClass → Heard → Reply
+barredBy s p k heard.Other = filteredOf s p k
+barredBy s p k (heard.Authentication algorithm transaction status) = filteredOf s p k
+barredBy s p k (heard.Deauthentication reason) = filteredOf s p k
+barredBy s p k (heard.Disassociation reason) = filteredOf s p k
+barredBy s p k (heard.Request kind current) = requestBarred s p k kind
+barredBy s p k (heard.Response kind status aid comeback) = filteredOf s p k
+
+-- "Otherwise discard, and if Address 1 is individual reply"
+unfoldable pub barredOf : Settings → Record → FrameClass → Bool → Heard → Reply
+barredOf s p k group h = pick group Silent (barredBy s p k h)

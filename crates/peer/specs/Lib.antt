@@ -1,0 +1,9 @@
+pub mod Settings
+pub mod Record
+pub mod Reply
+pub mod Turn
+pub mod Filter
+pub mod Hear
+pub mod Refuse
+pub mod Ask
+pub mod Tick

@@ -1,0 +1,57 @@
+-- 01, "Frames written": the frames that are said to a peer, and their addresses.
+-- Assumes nothing.
+use Prim.Native.Nat.{ℕ}
+use lib.Dec.{eqb}
+use Rattle.octets.specs.Pick.{pick}
+use Rattle.octets.specs.Frame.{capabilityOf}
+use Rattle.octets.specs.declared.frame.Body.{Body}
+use Rattle.octets.specs.declared.frame.Body.the-variants as body
+use Rattle.octets.specs.declared.heard.Kind.{Kind}
+use Rattle.octets.specs.declared.heard.Kind.the-variants.{Authentication, Association, Reassociation}
+use Rattle.peer.specs.Settings.{ap}
+use Rattle.peer.specs.declared.settings.Settings.{Settings}
+use Rattle.peer.specs.declared.reply.Reply.{Reply}
+use Rattle.peer.specs.declared.reply.Reply.the-variants.{Silent, Send}
+
+-- "Address 3 the AP's (own at an AP, the peer's at a station)"
+unfoldable pub apAddress : Settings → ℕ → ℕ
+apAddress s peer = pick (eqb (s .role) ap) (s .own) peer
+
+-- "Address 1 peer, Address 2 own"
+unfoldable pub sendOf : Settings → ℕ → ℕ → Body → Reply
+sendOf s peer subtype b =
+    Send (record { subtype = subtype; address1 = peer; address2 = s .own; address3 = apAddress s peer; body = b })
+
+-- The standard's subtypes: authentication 11, deauthentication 12, disassociation 10.
+unfoldable pub authenticationTo : Settings → ℕ → ℕ → ℕ → ℕ → Reply
+authenticationTo s peer algorithm transaction status = sendOf s peer 11 (body.Authentication algorithm transaction status)
+
+unfoldable pub deauthenticationTo : Settings → ℕ → ℕ → Reply
+deauthenticationTo s peer reason = sendOf s peer 12 (body.Reason reason)
+
+unfoldable pub disassociationTo : Settings → ℕ → ℕ → Reply
+disassociationTo s peer reason = sendOf s peer 10 (body.Reason reason)
+
+-- association request 0, response 1; reassociation request 2, response 3
+abbrev pub requestSubtype : Kind → ℕ
+requestSubtype Authentication = 11
+requestSubtype Association = 0
+requestSubtype Reassociation = 2
+
+abbrev pub responseSubtype : Kind → ℕ
+responseSubtype Authentication = 11
+responseSubtype Association = 1
+responseSubtype Reassociation = 3
+
+-- algorithm 0, transaction 1, status 0; capability, listen interval (then current AP)
+abbrev pub requestBody : Kind → ℕ → ℕ → Body
+requestBody Authentication capability current = body.Authentication 0 1 0
+requestBody Association capability current = body.AssociationRequest capability
+requestBody Reassociation capability current = body.ReassociationRequest capability current
+
+unfoldable pub requestTo : Settings → ℕ → Kind → ℕ → Reply
+requestTo s peer k current = sendOf s peer (requestSubtype k) (requestBody k (capabilityOf (s .rsna)) current)
+
+-- capability, status, AID
+unfoldable pub responseTo : Settings → ℕ → Kind → ℕ → ℕ → Reply
+responseTo s peer k status aid = sendOf s peer (responseSubtype k) (body.Response (capabilityOf (s .rsna)) status aid)

@@ -1,0 +1,35 @@
+-- 01: "A clock step (1 to 65,535 TU) lowers every time left and every hold, not below 0. An exchange whose time falls to 0 from above ends:
+-- authentication keeps the state, the others set State 2. .. Then every record in State 1 without exchange and with hold 0 is freed for
+-- use again." At one record.
+-- Assumes nothing.
+use Prim.Native.Nat.{ℕ, _-_}
+use mathlib.Core.Bool.{Bool, _&&_}
+use lib.Dec.{ltb, eqb}
+use Rattle.octets.specs.Pick.{pick}
+use Rattle.peer.specs.Record.{underWay, changedOf, freeOf}
+use Rattle.peer.specs.Turn.{endedOf}
+use Rattle.peer.specs.declared.settings.Settings.{Settings}
+use Rattle.peer.specs.declared.record.Record.{Record}
+use Rattle.peer.specs.declared.turn.Move.{Move}
+use Rattle.peer.specs.declared.turn.Move.the-variants as move
+use Rattle.peer.specs.declared.tick.Ticked.{Ticked}
+
+-- "authentication keeps the state, the others set State 2"
+unfoldable pub expiredMove : ℕ → Move
+expiredMove kind = pick (eqb kind 1) move.Keep move.Drop
+
+-- The times fall, not below 0 (subtraction stops there), and an exchange may end; the number of its kind is reported, else 0.
+unfoldable pub timedOf : Settings → Record → ℕ → Ticked
+timedOf s p d =
+    pick (eqb (p .left) 0)
+    (record { peer = changedOf p (p .state) (p .exchange) 0 (p .hold - d); report = 0 })
+    (pick (ltb d (p .left))
+    (record { peer = changedOf p (p .state) (p .exchange) (p .left - d) (p .hold - d); report = 0 })
+    (record { peer = endedOf s p (expiredMove (underWay (p .exchange))) (p .hold - d); report = underWay (p .exchange) }))
+
+-- "every record in State 1 without exchange and with hold 0 is freed"
+unfoldable pub freedOf : Record → Record
+freedOf p = pick (eqb (p .state) 1 && (eqb (p .hold) 0 && eqb (underWay (p .exchange)) 0)) freeOf p
+
+unfoldable pub tickOf : Settings → Record → ℕ → Ticked
+tickOf s p d = record { peer = freedOf (timedOf s p d .peer); report = timedOf s p d .report }

@@ -1,0 +1,10 @@
+// One peer: settings, a record, and what one frame, primitive or clock step makes of it. It sees no octets and no other record.
+pub mod ask;
+pub mod filter;
+pub mod hear;
+pub mod record;
+pub mod refuse;
+pub mod reply;
+pub mod settings;
+pub mod tick;
+pub mod turn;

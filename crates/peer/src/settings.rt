@@ -1,0 +1,44 @@
+// The settings of one access point or station. Any numbers may come in: `fit` says whether they are settings.
+use octets::address::valid;
+ghost use mathlib.Core.Path.{_≡_};
+ghost use Rattle.peer.specs.Settings.{settingsFit};
+
+#[repr(C)]
+pub struct Settings {
+    pub own: u64,
+    // Timeouts in TU.
+    pub authentication: u16,
+    pub association: u16,
+    pub role: u8,
+    // Whether RSNA is required, 0 or 1.
+    pub rsna: u8,
+}
+
+impl Settings {
+    pub const AP: u8 = 1;
+
+    pub const STATION: u8 = 2;
+
+    // Whether the settings are in range and the own address is valid.
+    pub fn fit(self) -> bool
+        ensures { λ r. ⌜ r ≡ settingsFit self ⌝ }
+    {
+        if self.role == 0 {
+            return false;
+        }
+        if 2 < self.role {
+            return false;
+        }
+        if 1 < self.rsna {
+            return false;
+        }
+        if self.authentication == 0 {
+            return false;
+        }
+        if self.association == 0 {
+            return false;
+        }
+        let own = self.own;
+        valid(own)
+    }
+}
