@@ -2,22 +2,23 @@
 -- Assumes nothing.
 use Prim.Native.Nat.{ℕ}
 use mathlib.Core.Bool.{_||_}
-use lib.Dec.{ltb, eqb}
+use lib.Dec.{eqb, ltb}
 use Rattle.octets.specs.Pick.{pick}
+use Rattle.octets.specs.declared.heard.Kind.the-variants.{Association, Authentication, Reassociation}
 use Rattle.octets.specs.declared.heard.Kind.{Kind}
-use Rattle.octets.specs.declared.heard.Kind.the-variants.{Authentication, Association, Reassociation}
+use Rattle.peer.specs.Authentication.{answeredMove}
+use Rattle.peer.specs.Moves.{movedOf}
 use Rattle.peer.specs.Record.{changedOf}
 use Rattle.peer.specs.Reply.{authenticationTo, deauthenticationTo, disassociationTo, requestTo, responseTo}
-use Rattle.peer.specs.Turn.{none, confirmOf, nothingTold, toldOf, movedOf, turnOf, endedOf, begunOf}
-use Rattle.peer.specs.Hear.{answeredMove}
-use Rattle.peer.specs.declared.settings.Settings.{Settings}
+use Rattle.peer.specs.Turn.{begunOf, confirmOf, endedOf, none, nothingTold, toldOf, turnOf}
+use Rattle.peer.specs.declared.moves.Move.the-variants as move
+use Rattle.peer.specs.declared.moves.Move.{Move}
 use Rattle.peer.specs.declared.record.Exchange.the-variants.{Awaiting, Sent}
 use Rattle.peer.specs.declared.record.Record.{Record}
-use Rattle.peer.specs.declared.reply.Reply.the-variants.{Silent}
-use Rattle.peer.specs.declared.turn.Move.{Move}
-use Rattle.peer.specs.declared.turn.Move.the-variants as move
-use Rattle.peer.specs.declared.turn.Turn.{Turn}
 use Rattle.peer.specs.declared.refuse.Others.{Others}
+use Rattle.peer.specs.declared.reply.Reply.the-variants.{Silent}
+use Rattle.peer.specs.declared.settings.Settings.{Settings}
+use Rattle.peer.specs.declared.turn.Turn.{Turn}
 
 -- "A frame of 1, 4 or 5 starts a sent exchange at its timeout."
 abbrev pub timeoutOf : Settings → Kind → ℕ

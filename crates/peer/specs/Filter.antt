@@ -1,20 +1,20 @@
 -- 01, A received frame, 6: the class filter. p is the peer's record, fresh where it has none: "A peer without a record counts as State 1."
 -- Assumes nothing.
 use Prim.Native.Nat.{ℕ}
-use mathlib.Core.Bool.{Bool, true, false}
-use lib.Dec.{leb, eqb}
+use mathlib.Core.Bool.{Bool, false, true}
+use lib.Dec.{eqb, leb}
 use Rattle.octets.specs.Pick.{pick}
-use Rattle.octets.specs.declared.class.FrameClass.{FrameClass}
 use Rattle.octets.specs.declared.class.FrameClass.the-variants as class
-use Rattle.octets.specs.declared.heard.Heard.{Heard}
+use Rattle.octets.specs.declared.class.FrameClass.{FrameClass}
 use Rattle.octets.specs.declared.heard.Heard.the-variants as heard
+use Rattle.octets.specs.declared.heard.Heard.{Heard}
 use Rattle.octets.specs.declared.heard.Kind.{Kind}
-use Rattle.peer.specs.Settings.{ap}
 use Rattle.peer.specs.Reply.{deauthenticationTo, disassociationTo, responseTo}
-use Rattle.peer.specs.declared.settings.Settings.{Settings}
+use Rattle.peer.specs.Settings.{ap}
 use Rattle.peer.specs.declared.record.Record.{Record}
-use Rattle.peer.specs.declared.reply.Reply.{Reply}
 use Rattle.peer.specs.declared.reply.Reply.the-variants.{Silent}
+use Rattle.peer.specs.declared.reply.Reply.{Reply}
+use Rattle.peer.specs.declared.settings.Settings.{Settings}
 
 -- 6. "Class 1 passes, class 2 in State 2 and above, class 3 in State 3 and above (001)."
 abbrev pub passesOf : FrameClass → ℕ → Bool

@@ -1,8 +1,13 @@
 pub mod Settings
 pub mod Record
+pub mod Fit
+pub mod Moves
 pub mod Reply
 pub mod Turn
 pub mod Filter
+pub mod Authentication
+pub mod Farewell
+pub mod Association
 pub mod Hear
 pub mod Refuse
 pub mod Ask

@@ -1,11 +1,11 @@
 -- 01, "Refusal numbers" and "Primitives from our own side": what refuses a primitive at one peer. The order is the table's.
 -- Assumes nothing.
 use Prim.Native.Nat.{ℕ}
-use mathlib.Core.Bool.{Bool, true, false, not, _&&_, _||_}
-use lib.Dec.{ltb, leb, eqb}
+use mathlib.Core.Bool.{Bool, _&&_, _||_, false, not, true}
+use lib.Dec.{eqb, leb, ltb}
 use Rattle.octets.specs.Pick.{pick}
-use Rattle.peer.specs.Settings.{ap, station}
 use Rattle.peer.specs.Record.{askedOf, awaitingOf, underWay}
+use Rattle.peer.specs.Settings.{ap, station}
 use Rattle.peer.specs.declared.record.Record.{Record}
 use Rattle.peer.specs.declared.refuse.Others.{Others}
 

@@ -2,16 +2,16 @@
 -- Assumes nothing.
 use Prim.Native.Nat.{ℕ}
 use lib.Dec.{eqb}
-use Rattle.octets.specs.Pick.{pick}
 use Rattle.octets.specs.Frame.{capabilityOf}
-use Rattle.octets.specs.declared.frame.Body.{Body}
+use Rattle.octets.specs.Pick.{pick}
 use Rattle.octets.specs.declared.frame.Body.the-variants as body
+use Rattle.octets.specs.declared.frame.Body.{Body}
+use Rattle.octets.specs.declared.heard.Kind.the-variants.{Association, Authentication, Reassociation}
 use Rattle.octets.specs.declared.heard.Kind.{Kind}
-use Rattle.octets.specs.declared.heard.Kind.the-variants.{Authentication, Association, Reassociation}
 use Rattle.peer.specs.Settings.{ap}
-use Rattle.peer.specs.declared.settings.Settings.{Settings}
+use Rattle.peer.specs.declared.reply.Reply.the-variants.{Send}
 use Rattle.peer.specs.declared.reply.Reply.{Reply}
-use Rattle.peer.specs.declared.reply.Reply.the-variants.{Silent, Send}
+use Rattle.peer.specs.declared.settings.Settings.{Settings}
 
 -- "Address 3 the AP's (own at an AP, the peer's at a station)"
 unfoldable pub apAddress : Settings → ℕ → ℕ

@@ -2,8 +2,8 @@
 -- association timeouts (1 to 65,535 TU)". The upper ends of the timeouts are those of their type.
 -- Assumes nothing.
 use Prim.Native.Nat.{ℕ}
-use mathlib.Core.Bool.{Bool, not, _&&_}
-use lib.Dec.{leb, eqb}
+use mathlib.Core.Bool.{Bool, _&&_, not}
+use lib.Dec.{eqb, leb}
 use Rattle.octets.specs.Address.{validOf}
 use Rattle.peer.specs.declared.settings.Settings.{Settings}
 

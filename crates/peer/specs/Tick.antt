@@ -2,16 +2,16 @@
 -- authentication keeps the state, the others set State 2. .. Then every record in State 1 without exchange and with hold 0 is freed for
 -- use again." At one record.
 -- Assumes nothing.
-use Prim.Native.Nat.{ℕ, _-_}
-use mathlib.Core.Bool.{Bool, _&&_}
-use lib.Dec.{ltb, eqb}
+use Prim.Native.Nat.{_-_, ℕ}
+use mathlib.Core.Bool.{_&&_}
+use lib.Dec.{eqb, ltb}
 use Rattle.octets.specs.Pick.{pick}
-use Rattle.peer.specs.Record.{underWay, changedOf, freeOf}
+use Rattle.peer.specs.Record.{changedOf, freeOf, underWay}
 use Rattle.peer.specs.Turn.{endedOf}
-use Rattle.peer.specs.declared.settings.Settings.{Settings}
+use Rattle.peer.specs.declared.moves.Move.the-variants as move
+use Rattle.peer.specs.declared.moves.Move.{Move}
 use Rattle.peer.specs.declared.record.Record.{Record}
-use Rattle.peer.specs.declared.turn.Move.{Move}
-use Rattle.peer.specs.declared.turn.Move.the-variants as move
+use Rattle.peer.specs.declared.settings.Settings.{Settings}
 use Rattle.peer.specs.declared.tick.Ticked.{Ticked}
 
 -- "authentication keeps the state, the others set State 2"

@@ -1,34 +1,20 @@
--- The moves of a state, what is told of them, and what one event makes of one peer.
+-- What one event makes of one peer, as a value.
 -- Assumes nothing.
 use Prim.Native.Nat.{ℕ}
-use mathlib.Core.Bool.{Bool, true, false}
-use lib.Dec.{ltb, eqb}
-use Rattle.octets.specs.Pick.{pick}
+use mathlib.Core.Bool.{false, true}
+use Rattle.octets.specs.declared.heard.Kind.the-variants.{Association, Authentication, Reassociation}
 use Rattle.octets.specs.declared.heard.Kind.{Kind}
-use Rattle.octets.specs.declared.heard.Kind.the-variants.{Authentication, Association, Reassociation}
-use Rattle.peer.specs.Settings.{ap}
+use Rattle.peer.specs.Moves.{dsOf, movedOf}
 use Rattle.peer.specs.Record.{changedOf}
-use Rattle.peer.specs.declared.settings.Settings.{Settings}
-use Rattle.peer.specs.declared.record.Exchange.{Exchange}
+use Rattle.peer.specs.declared.moves.Move.{Move}
 use Rattle.peer.specs.declared.record.Exchange.the-variants.{None}
+use Rattle.peer.specs.declared.record.Exchange.{Exchange}
 use Rattle.peer.specs.declared.record.Record.{Record}
+use Rattle.peer.specs.declared.reply.Reply.the-variants.{Silent}
 use Rattle.peer.specs.declared.reply.Reply.{Reply}
-use Rattle.peer.specs.declared.turn.Move.{Move}
-use Rattle.peer.specs.declared.turn.Move.the-variants.{Keep, Authenticate, Deauthenticate, Drop, Join, Secure}
+use Rattle.peer.specs.declared.settings.Settings.{Settings}
 use Rattle.peer.specs.declared.turn.Told.{Told}
 use Rattle.peer.specs.declared.turn.Turn.{Turn}
-
--- The state after each move. Nothing else changes a state but the freeing of a place.
-abbrev pub movedOf : ℕ → ℕ → Move → ℕ
-movedOf rsna state Keep = state
--- "status 0 moves State 1 to 2, others kept"
-movedOf rsna state Authenticate = pick (eqb state 1) 2 state
-movedOf rsna state Deauthenticate = 1
-movedOf rsna state Drop = 2
--- "State 3 if RSNA required, else 4"
-movedOf rsna state Join = pick (eqb rsna 1) 3 4
--- "State 3 to 4; State 4 kept"
-movedOf rsna state Secure = pick (eqb state 3) 4 state
 
 -- The verdict on a frame.
 abbrev pub none : ℕ
@@ -39,13 +25,6 @@ admit = 1
 
 abbrev pub discard : ℕ
 discard = 2
-
--- "An AP also tells the distribution system "joined" when a state rises from 1-2 to 3-4, "left" when it falls back." 1 joined, 2 left.
-unfoldable pub dsOf : ℕ → ℕ → ℕ → ℕ
-dsOf role before after =
-    pick (eqb role ap)
-    (pick (ltb before 3) (pick (ltb after 3) 0 1) (pick (ltb after 3) 2 0))
-    0
 
 -- "Notices: 0 none, then indication and confirm of authentication 1, 2; deauthentication 3, 4; association 5, 6; reassociation 7, 8;
 -- disassociation 9, 10."
@@ -82,3 +61,10 @@ endedOf s p m hold = changedOf p (movedOf (s .rsna) (p .state) m) None 0 hold
 -- The record with an exchange begun, in place of any other: "state unchanged", the hold too.
 unfoldable pub begunOf : Record → Exchange → ℕ → Record
 begunOf p e left = changedOf p (p .state) e left (p .hold)
+
+-- The record stays; what is said is a reply, or nothing.
+unfoldable pub repliedOf : Settings → Record → ℕ → Reply → Turn
+repliedOf s p verdict reply = turnOf s p p verdict nothingTold reply
+
+unfoldable pub stillOf : Settings → Record → ℕ → Turn
+stillOf s p verdict = repliedOf s p verdict Silent

@@ -1,5 +1,7 @@
 // What a primitive from our own side does at one peer, where nothing refuses it.
-use crate::hear::answered_move;
+use crate::authentication::answered_move;
+use crate::moves::Move;
+use crate::moves::moved;
 use crate::record::Exchange;
 use crate::record::Record;
 use crate::refuse::Others;
@@ -10,7 +12,6 @@ use crate::reply::disassociation;
 use crate::reply::request;
 use crate::reply::response;
 use crate::settings::Settings;
-use crate::turn::Move;
 use crate::turn::Told;
 use crate::turn::Turn;
 use crate::turn::begun;
@@ -18,7 +19,7 @@ use crate::turn::confirm;
 use crate::turn::ended;
 use octets::heard::Kind;
 ghost use mathlib.Core.Path.{_≡_};
-ghost use Rattle.peer.specs.Ask.{timeoutOf, startedOf, answerOf, deauthenticateOf, failedOf, associateOf, reassociateOf, disassociateOf, awaitedOf, declinedOf, respondOf, secureOf, reportedMove, reportOf, askOf};
+ghost use Rattle.peer.specs.Ask.{answerOf, askOf, associateOf, awaitedOf, deauthenticateOf, declinedOf, disassociateOf, failedOf, reassociateOf, reportOf, reportedMove, respondOf, secureOf, startedOf, timeoutOf};
 
 // The timeout of an exchange of a kind.
 fn timeout(s: Settings, k: Kind) -> u16
@@ -163,7 +164,7 @@ fn respond(s: Settings, aid: u16, p: Record, k: Kind, status: u16) -> Turn
 fn secure(s: Settings, p: Record) -> Turn
     ensures { λ r. ⌜ r ≡ secureOf s p ⌝ }
 {
-    let state = crate::turn::moved(s.rsna, p.state, Move::Secure);
+    let state = moved(s.rsna, p.state, Move::Secure);
     let e = p.exchange;
     let q = p.changed(state, e, p.left, p.hold);
     Turn::of(s, p, q, Turn::NONE, Told::nothing(), Reply::Silent)

@@ -9,7 +9,7 @@ use octets::class::FrameClass;
 use octets::heard::Heard;
 use octets::heard::Kind;
 ghost use mathlib.Core.Path.{_≡_};
-ghost use Rattle.peer.specs.Filter.{passesOf, filteredOf, requestBarred, barredOf};
+ghost use Rattle.peer.specs.Filter.{barredOf, filteredOf, passesOf, requestBarred};
 
 // Whether a frame of a class passes in a state.
 pub fn passes(class: FrameClass, state: u8) -> bool

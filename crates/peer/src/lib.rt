@@ -1,7 +1,12 @@
 // One peer: settings, a record, and what one frame, primitive or clock step makes of it. It sees no octets and no other record.
 pub mod ask;
+pub mod association;
+pub mod authentication;
+pub mod farewell;
 pub mod filter;
+pub mod fit;
 pub mod hear;
+pub mod moves;
 pub mod record;
 pub mod refuse;
 pub mod reply;

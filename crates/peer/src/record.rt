@@ -1,9 +1,7 @@
 // A peer's record: its address, its state, the exchange under way and the times left.
-use crate::settings::Settings;
-use octets::address::valid;
 use octets::heard::Kind;
 ghost use mathlib.Core.Path.{_≡_};
-ghost use Rattle.peer.specs.Record.{kindOf, askedOf, awaitingOf, sentOf, underWay, isAssociating, associates, freshOf, freeOf, changedOf, isFree, stands, askedFits, awaitingFits, sentFits, exchangeFits, holdFits, recordFits, placeFits};
+ghost use Rattle.peer.specs.Record.{askedOf, associates, awaitingOf, changedOf, freeOf, freshOf, isAssociating, isFree, kindOf, sentOf, underWay};
 
 // The exchange under way.
 pub enum Exchange {
@@ -95,73 +93,6 @@ pub fn associating(k: Kind) -> bool
     }
 }
 
-// Whether a kind of exchange may stand in a state.
-fn standing(k: Kind, state: u8) -> bool
-    ensures { λ r. ⌜ r ≡ stands k state ⌝ }
-{
-    if associating(k) {
-        Record::STATE_2 <= state
-    } else {
-        true
-    }
-}
-
-fn asked_fits(k: Kind, role: u8, state: u8, left: u16) -> bool
-    ensures { λ r. ⌜ r ≡ askedFits k role state left ⌝ }
-{
-    if role != Settings::AP {
-        return false;
-    }
-    if left != 0 {
-        return false;
-    }
-    standing(k, state)
-}
-
-fn awaiting_fits(k: Kind, role: u8, state: u8, left: u16) -> bool
-    ensures { λ r. ⌜ r ≡ awaitingFits k role state left ⌝ }
-{
-    if associating(k) {
-        asked_fits(k, role, state, left)
-    } else {
-        false
-    }
-}
-
-fn sent_fits(k: Kind, role: u8, state: u8, left: u16) -> bool
-    ensures { λ r. ⌜ r ≡ sentFits k role state left ⌝ }
-{
-    if role != Settings::STATION {
-        return false;
-    }
-    if left == 0 {
-        return false;
-    }
-    standing(k, state)
-}
-
-// Whether a hold fits the role.
-fn hold_fits(role: u8, hold: u32) -> bool
-    ensures { λ r. ⌜ r ≡ holdFits role hold ⌝ }
-{
-    if role != Settings::AP {
-        return true;
-    }
-    hold == 0
-}
-
-// Whether an exchange fits the role, the state and the time left.
-pub fn exchange_fits(e: Exchange, role: u8, state: u8, left: u16) -> bool
-    ensures { λ r. ⌜ r ≡ exchangeFits e role state left ⌝ }
-{
-    match e {
-        Exchange::None => left == 0,
-        Exchange::Asked(k) => asked_fits(k, role, state, left),
-        Exchange::Awaiting(k) => awaiting_fits(k, role, state, left),
-        Exchange::Sent(k) => sent_fits(k, role, state, left),
-    }
-}
-
 impl Record {
     pub const STATE_1: u8 = 1;
 
@@ -170,6 +101,9 @@ impl Record {
     pub const STATE_3: u8 = 3;
 
     pub const STATE_4: u8 = 4;
+
+    // The hold where no time is given: 2 s in whole TU, rounded up.
+    pub const HOLD: u32 = 1954;
 
     // A record as it is when its peer is first heard of.
     pub fn fresh(address: u64) -> Record
@@ -236,37 +170,5 @@ impl Record {
     {
         let e = self.exchange;
         2 <= under_way(e)
-    }
-
-    // Whether a record that is no free place is well formed by itself.
-    pub fn fits(self, s: Settings) -> bool
-        ensures { λ r. ⌜ r ≡ recordFits s self ⌝ }
-    {
-        let a = self.address;
-        let state = self.state;
-        let e = self.exchange;
-        if state < Record::STATE_1 {
-            return false;
-        }
-        if Record::STATE_4 < state {
-            return false;
-        }
-        if a == s.own {
-            return false;
-        }
-        if valid(a) {} else {
-            return false;
-        }
-        if hold_fits(s.role, self.hold) {} else {
-            return false;
-        }
-        exchange_fits(e, s.role, state, self.left)
-    }
-
-    // Whether a place is free or its record well formed by itself.
-    pub fn place_fits(self, s: Settings) -> bool
-        ensures { λ r. ⌜ r ≡ placeFits s self ⌝ }
-    {
-        if self.is_free() { true } else { self.fits(s) }
     }
 }

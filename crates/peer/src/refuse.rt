@@ -5,7 +5,7 @@ use crate::record::awaiting;
 use crate::record::under_way;
 use crate::settings::Settings;
 ghost use mathlib.Core.Path.{_≡_};
-ghost use Rattle.peer.specs.Refuse.{codeAllowed, roleAllowed, conflictOf, joinConflict, mismatchOf, joinedElsewhere, heldOf};
+ghost use Rattle.peer.specs.Refuse.{codeAllowed, conflictOf, heldOf, joinConflict, joinedElsewhere, mismatchOf, roleAllowed};
 
 // What a station knows of its other records: the address of the one in State 3 or 4, or 0; whether any (re)association is under way.
 pub struct Others {

@@ -5,7 +5,7 @@ use octets::frame::Frame;
 use octets::frame::capability;
 use octets::heard::Kind;
 ghost use mathlib.Core.Path.{_≡_};
-ghost use Rattle.peer.specs.Reply.{apAddress, sendOf, authenticationTo, deauthenticationTo, disassociationTo, requestSubtype, responseSubtype, requestBody, requestTo, responseTo};
+ghost use Rattle.peer.specs.Reply.{apAddress, authenticationTo, deauthenticationTo, disassociationTo, requestBody, requestSubtype, requestTo, responseSubtype, responseTo, sendOf};
 
 pub enum Reply {
     Silent,

@@ -1,12 +1,12 @@
 // What a clock step does at one record: the times fall, an exchange may end, and the place may be free again.
+use crate::moves::Move;
 use crate::record::Record;
 use crate::record::under_way;
 use crate::settings::Settings;
-use crate::turn::Move;
 use crate::turn::ended;
 ghost use mathlib.Core.Path.{_≡_};
 ghost use Prim.Native.Nat.{_-_};
-ghost use Rattle.peer.specs.Tick.{expiredMove, timedOf, freedOf, tickOf};
+ghost use Rattle.peer.specs.Tick.{expiredMove, freedOf, tickOf, timedOf};
 
 // A record after a clock step, and the number of the kind of exchange that timed out, or 0.
 pub struct Ticked {

@@ -1,80 +1,14 @@
-// What one event makes of one peer: the moves of a state, what is told, and the whole as a Turn.
+// What one event makes of one peer, as a value: the record after it, what is told, and what is said.
+use crate::moves::Move;
+use crate::moves::ds;
+use crate::moves::moved;
 use crate::record::Exchange;
 use crate::record::Record;
 use crate::reply::Reply;
 use crate::settings::Settings;
 use octets::heard::Kind;
 ghost use mathlib.Core.Path.{_≡_};
-ghost use Rattle.peer.specs.Turn.{movedOf, dsOf, indicationOf, confirmOf, nothingTold, toldOf, turnOf, soleOf, endedOf, begunOf};
-
-// All moves of a state.
-pub enum Move {
-    Keep,
-    // An authentication succeeded.
-    Authenticate,
-    // A deauthentication, ours or the peer's.
-    Deauthenticate,
-    // A disassociation, a rejection, a (re)association timed out, or a move to another AP.
-    Drop,
-    // A (re)association succeeded.
-    Join,
-    // The keys are in place.
-    Secure,
-}
-
-// The state after a move.
-pub fn moved(rsna: u8, state: u8, m: Move) -> u8
-    ensures { λ r. ⌜ r ≡ movedOf rsna state m ⌝ }
-{
-    match m {
-        Move::Keep => state,
-        Move::Authenticate => {
-            if state == Record::STATE_1 {
-                Record::STATE_2
-            } else {
-                state
-            }
-        }
-        Move::Deauthenticate => Record::STATE_1,
-        Move::Drop => Record::STATE_2,
-        Move::Join => {
-            if rsna == 1 {
-                Record::STATE_3
-            } else {
-                Record::STATE_4
-            }
-        }
-        Move::Secure => {
-            if state == Record::STATE_3 {
-                Record::STATE_4
-            } else {
-                state
-            }
-        }
-    }
-}
-
-// What the distribution system is told when a state goes from one to another.
-pub fn ds(role: u8, before: u8, after: u8) -> u8
-    ensures { λ r. ⌜ r ≡ dsOf role before after ⌝ }
-{
-    if role != Settings::AP {
-        return Turn::DS_NONE;
-    }
-    if before < Record::STATE_3 {
-        if after < Record::STATE_3 {
-            Turn::DS_NONE
-        } else {
-            Turn::DS_JOINED
-        }
-    } else {
-        if after < Record::STATE_3 {
-            Turn::DS_LEFT
-        } else {
-            Turn::DS_NONE
-        }
-    }
-}
+ghost use Rattle.peer.specs.Turn.{begunOf, confirmOf, endedOf, indicationOf, nothingTold, repliedOf, soleOf, stillOf, toldOf, turnOf};
 
 // The notice that a request of a kind was heard.
 pub fn indication(k: Kind) -> u8
@@ -226,4 +160,18 @@ pub fn begun(p: Record, e: Exchange, left: u16) -> Record
     ensures { λ r. ⌜ r ≡ begunOf p e left ⌝ }
 {
     p.changed(p.state, e, left, p.hold)
+}
+
+// The record stays; what is said is a reply.
+pub fn replied(s: Settings, p: Record, verdict: u8, reply: Reply) -> Turn
+    ensures { λ r. ⌜ r ≡ repliedOf s p verdict reply ⌝ }
+{
+    Turn::of(s, p, p, verdict, Told::nothing(), reply)
+}
+
+// Nothing happens.
+pub fn still(s: Settings, p: Record, verdict: u8) -> Turn
+    ensures { λ r. ⌜ r ≡ stillOf s p verdict ⌝ }
+{
+    replied(s, p, verdict, Reply::Silent)
 }

@@ -1,4 +1,4 @@
--- `peer::reply::ap_address` meets its contract: each answer by the tests that led to it.
+-- `peer::reply::ap_address` meets its contract: each answer by the tests that led to it and what its callees ensure.
 -- Assumes nothing.
 use Rattle.octets.proofs.Branch.{tests}
 use Rattle.peer.specs.Reply.{apAddress}

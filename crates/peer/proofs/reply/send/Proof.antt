@@ -1,4 +1,4 @@
--- `peer::reply::send` meets its contract: by its fields.
+-- `peer::reply::send` meets its contract: each answer by the tests that led to it and what its callees ensure.
 -- Assumes nothing.
 use Rattle.octets.proofs.Branch.{tests}
 use Rattle.peer.specs.Reply.{sendOf}

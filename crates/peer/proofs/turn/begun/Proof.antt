@@ -1,4 +1,4 @@
--- `peer::turn::begun` meets its contract: by what its callees ensure.
+-- `peer::turn::begun` meets its contract: each answer by the tests that led to it and what its callees ensure.
 -- Assumes nothing.
 use Rattle.octets.proofs.Branch.{tests}
 use Rattle.peer.specs.Turn.{begunOf}

@@ -1,4 +1,4 @@
--- `peer::record::Record::is_associating` meets its contract: by its one test.
+-- `peer::record::Record::is_associating` meets its contract: each answer by the tests that led to it and what its callees ensure.
 -- Assumes nothing.
 use Rattle.octets.proofs.Branch.{tests}
 use Rattle.peer.specs.Record.{associates}

@@ -1,0 +1,54 @@
+-- `peer::fit::record_fits` meets its contract: each answer by the tests that led to it and what its callees ensure.
+-- Assumes nothing.
+use Rattle.octets.proofs.Branch.{tests}
+use Rattle.peer.specs.Fit.{recordFits}
+use borrow.Author.Needs.{needs}
+use Rattle.peer.proofs.fit.record_fits.Statement.{statement}
+use Rattle.peer.proofs.fit.record_fits.Tie as tie
+
+returns : tie.Need-returns
+unfolding recordFits
+returns c = search tests
+
+returns-2 : tie.Need-returns-2
+unfolding recordFits
+returns-2 c = search tests
+
+returns-3 : tie.Need-returns-3
+unfolding recordFits
+returns-3 c = search tests
+
+valid-requires : tie.Need-valid-requires
+valid-requires c κs = search needs
+
+returns-4 : tie.Need-returns-4
+unfolding recordFits
+returns-4 c = search (tests, c .if4 .left, ← c .before .valid .ensures)
+
+hold-fits-requires : tie.Need-hold-fits-requires
+hold-fits-requires c κs = search needs
+
+returns-5 : tie.Need-returns-5
+unfolding recordFits
+returns-5 c = search (tests, c .if5 .left, ← c .before .hold-fits .ensures, c .before .before .if4 .taken, ← c .before .before .before .valid .ensures)
+
+exchange-fits-requires : tie.Need-exchange-fits-requires
+exchange-fits-requires c κs = search needs
+
+returns-6 : tie.Need-returns-6
+unfolding recordFits
+returns-6 c = search (tests, ← c .exchange-fits .ensures, c .before .if5 .taken, ← c .before .before .hold-fits .ensures, c .before .before .before .if4 .taken, ← c .before .before .before .before .valid .ensures)
+
+pub record-fits-spec : {M : Type 1} → statement M
+record-fits-spec =
+    tie.close
+    (tie.spec
+    returns
+    returns-2
+    returns-3
+    valid-requires
+    returns-4
+    hold-fits-requires
+    returns-5
+    exchange-fits-requires
+    returns-6)

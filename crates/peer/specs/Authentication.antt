@@ -1,0 +1,53 @@
+-- 01, A received frame, 8: authentication.
+-- Assumes nothing.
+use Prim.Native.Nat.{ℕ}
+use mathlib.Core.Bool.{_&&_}
+use lib.Dec.{eqb}
+use Rattle.octets.specs.Pick.{pick}
+use Rattle.octets.specs.declared.heard.Kind.the-variants as kind
+use Rattle.octets.specs.declared.heard.Kind.{Kind}
+use Rattle.peer.specs.Record.{sentOf}
+use Rattle.peer.specs.Reply.{authenticationTo}
+use Rattle.peer.specs.Settings.{ap}
+use Rattle.peer.specs.Turn.{admit, begunOf, endedOf, indicationOf, repliedOf, stillOf, toldOf, turnOf}
+use Rattle.peer.specs.declared.moves.Move.the-variants as move
+use Rattle.peer.specs.declared.moves.Move.{Move}
+use Rattle.peer.specs.declared.record.Exchange.the-variants.{Asked}
+use Rattle.peer.specs.declared.record.Record.{Record}
+use Rattle.peer.specs.declared.reply.Reply.the-variants.{Silent}
+use Rattle.peer.specs.declared.settings.Settings.{Settings}
+use Rattle.peer.specs.declared.turn.Turn.{Turn}
+
+-- "that exchange asked, replacing any, with an indication; a reassociation's carries the current AP address"; its code is 0
+unfoldable pub requestedOf : Settings → Record → Kind → ℕ → Turn
+requestedOf s p k current =
+    turnOf s p (begunOf p (Asked k) 0) admit (record { notice = indicationOf k; code = 0; current = current }) Silent
+
+-- "Authentication, AP, transaction 1: algorithm not 0, reply transaction 2, same algorithm, status 13. Else .. the record (new if need be) has
+-- authentication asked, replacing any exchange, with an indication; state unchanged."
+unfoldable pub authenticationAtAp : Settings → Record → ℕ → ℕ → Turn
+authenticationAtAp s p algorithm transaction =
+    pick (eqb transaction 1)
+    (pick (eqb algorithm 0)
+    (requestedOf s p kind.Authentication 0)
+    (repliedOf s p admit (authenticationTo s (p .address) algorithm 2 13)))
+    (stillOf s p admit)
+
+-- "no record and no free place, reply status 17"
+unfoldable pub fullOf : Settings → Record → Turn
+fullOf s p = repliedOf s p admit (authenticationTo s (p .address) 0 2 17)
+
+-- "status 0 moves State 1 to 2 and leaves others; another status leaves the state"
+unfoldable pub answeredMove : ℕ → Move
+answeredMove status = pick (eqb status 0) move.Authenticate move.Keep
+
+-- "Authentication, station, algorithm 0, transaction 2, authentication sent to that peer: exchange ends; .. Confirm with the status."
+unfoldable pub authenticationAtStation : Settings → Record → ℕ → ℕ → ℕ → Turn
+authenticationAtStation s p algorithm transaction status =
+    pick (eqb algorithm 0 && (eqb transaction 2 && eqb (sentOf (p .exchange)) 1))
+    (turnOf s p (endedOf s p (answeredMove status) (p .hold)) admit (toldOf 2 status) Silent)
+    (stillOf s p admit)
+
+unfoldable pub authenticationHeard : Settings → Record → ℕ → ℕ → ℕ → Turn
+authenticationHeard s p algorithm transaction status =
+    pick (eqb (s .role) ap) (authenticationAtAp s p algorithm transaction) (authenticationAtStation s p algorithm transaction status)

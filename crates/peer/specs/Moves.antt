@@ -1,0 +1,27 @@
+-- The moves of a state, and what the distribution system is told of them.
+-- Assumes nothing.
+use Prim.Native.Nat.{ℕ}
+use lib.Dec.{eqb, ltb}
+use Rattle.octets.specs.Pick.{pick}
+use Rattle.peer.specs.Settings.{ap}
+use Rattle.peer.specs.declared.moves.Move.the-variants.{Authenticate, Deauthenticate, Drop, Join, Keep, Secure}
+use Rattle.peer.specs.declared.moves.Move.{Move}
+
+-- The state after each move. Nothing else changes a state but the freeing of a place.
+abbrev pub movedOf : ℕ → ℕ → Move → ℕ
+movedOf rsna state Keep = state
+-- "status 0 moves State 1 to 2, others kept"
+movedOf rsna state Authenticate = pick (eqb state 1) 2 state
+movedOf rsna state Deauthenticate = 1
+movedOf rsna state Drop = 2
+-- "State 3 if RSNA required, else 4"
+movedOf rsna state Join = pick (eqb rsna 1) 3 4
+-- "State 3 to 4; State 4 kept"
+movedOf rsna state Secure = pick (eqb state 3) 4 state
+
+-- "An AP also tells the distribution system "joined" when a state rises from 1-2 to 3-4, "left" when it falls back." 1 joined, 2 left.
+unfoldable pub dsOf : ℕ → ℕ → ℕ → ℕ
+dsOf role before after =
+    pick (eqb role ap)
+    (pick (ltb before 3) (pick (ltb after 3) 0 1) (pick (ltb after 3) 2 0))
+    0

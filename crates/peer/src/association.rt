@@ -1,0 +1,90 @@
+// (Re)association: the request heard at an AP, the response heard at a station.
+use crate::authentication::requested;
+use crate::moves::Move;
+use crate::record::Record;
+use crate::record::kind_number;
+use crate::record::sent;
+use crate::reply::Reply;
+use crate::settings::Settings;
+use crate::turn::Told;
+use crate::turn::Turn;
+use crate::turn::confirm;
+use crate::turn::ended;
+use crate::turn::still;
+use octets::element::Comeback;
+use octets::heard::Kind;
+ghost use mathlib.Core.Path.{_≡_};
+ghost use Rattle.peer.specs.Association.{acceptedOf, comebackHold, rejectedOf, requestHeard, responseHeard};
+
+pub fn request_heard(s: Settings, p: Record, kind: Kind, current: u64) -> Turn
+    ensures { λ r. ⌜ r ≡ requestHeard s p kind current ⌝ }
+{
+    if s.role == Settings::AP {
+        requested(s, p, kind, current)
+    } else {
+        still(s, p, Turn::ADMIT)
+    }
+}
+
+// The hold that a rejection sets. A comeback of 0 is a hold of 0.
+fn comeback_hold(c: Comeback) -> u32
+    ensures { λ r. ⌜ r ≡ comebackHold c ⌝ }
+{
+    match c {
+        Comeback::Given(tu) => tu,
+        Comeback::Absent => Record::HOLD,
+    }
+}
+
+// A (re)association succeeded, where the AID is one.
+fn accepted(s: Settings, p: Record, kind: Kind, aid: u16) -> Turn
+    ensures { λ r. ⌜ r ≡ acceptedOf s p kind aid ⌝ }
+{
+    if aid == 0 {
+        return still(s, p, Turn::ADMIT);
+    }
+    if 2007 < aid {
+        return still(s, p, Turn::ADMIT);
+    }
+    let notice = confirm(kind);
+    let q = ended(s, p, Move::Join, p.hold);
+    Turn::of(s, p, q, Turn::ADMIT, Told::of(notice, 0), Reply::Silent).solely()
+}
+
+// A (re)association was rejected.
+fn rejected(s: Settings, p: Record, kind: Kind, status: u16, c: Comeback) -> Turn
+    ensures { λ r. ⌜ r ≡ rejectedOf s p kind status c ⌝ }
+{
+    let notice = confirm(kind);
+    let hold = comeback_hold(c);
+    let q = ended(s, p, Move::Drop, hold);
+    Turn::of(
+        s,
+        p,
+        q,
+        Turn::ADMIT,
+        Told::of(notice, status),
+        Reply::Silent,
+    )
+}
+
+pub fn response_heard(
+    s: Settings,
+    p: Record,
+    kind: Kind,
+    status: u16,
+    aid: u16,
+    c: Comeback,
+) -> Turn
+    ensures { λ r. ⌜ r ≡ responseHeard s p kind status aid c ⌝ }
+{
+    let e = p.exchange;
+    if sent(e) != kind_number(kind) {
+        return still(s, p, Turn::ADMIT);
+    }
+    if status == 0 {
+        accepted(s, p, kind, aid)
+    } else {
+        rejected(s, p, kind, status, c)
+    }
+}
