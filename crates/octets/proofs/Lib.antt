@@ -2,6 +2,6 @@ pub mod Branch
 pub mod Table
 pub mod Le
 pub mod Walk
-pub mod Put
+pub mod Stores
 pub mod Lengths
 pub mod RoundTrip

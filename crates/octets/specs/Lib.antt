@@ -5,7 +5,8 @@ pub mod Class
 pub mod Element
 pub mod Heard
 pub mod Shape
-pub mod Put
+pub mod Stored
 pub mod Frame
+pub mod Report
 pub mod Read
 pub mod Examples

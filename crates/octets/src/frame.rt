@@ -1,10 +1,10 @@
 // The frames that are written, and how: 24 octets of header, then the body.
+use crate::put::put_address;
+use crate::put::put_u16;
 ghost use mathlib.Core.Path.{_≡_};
-ghost use mathlib.Core.List.{_++_};
 ghost use Prim.Native.Nat.{_+_, _≤_};
 ghost use lib.ListN.{length};
-ghost use Rattle.octets.specs.Put.{Stored};
-ghost use Rattle.octets.specs.Field.{octets};
+ghost use Rattle.octets.specs.Stored.{Stored};
 ghost use Rattle.octets.specs.Frame.{aidField, capabilityOf, headOf, bodyOf, bytesOf, writtenOf, lengthOf};
 
 pub enum Body {
@@ -69,26 +69,6 @@ fn aid_field(aid: u16) -> u16
     ensures { λ r. ⌜ r ≡ aidField aid ⌝ }
 {
     if aid == 0 { 0 } else { aid % 16384 + 49152 }
-}
-
-fn put_u16(out: &mut [u8], at: usize, v: u16)
-    requires { ⌜ at + 2 ≤ length (now out) ⌝ }
-    ensures { λ _. ⌜ Stored (now (out .entry)) at (octets 2 v) (now (out .exit)) ⌝ }
-{
-    out[at] = (v % 256) as u8;
-    out[at + 1] = (v / 256 % 256) as u8;
-}
-
-fn put_address(out: &mut [u8], at: usize, v: u64)
-    requires { ⌜ at + 6 ≤ length (now out) ⌝ }
-    ensures { λ _. ⌜ Stored (now (out .entry)) at (octets 6 v) (now (out .exit)) ⌝ }
-{
-    out[at] = (v % 256) as u8;
-    out[at + 1] = (v / 256 % 256) as u8;
-    out[at + 2] = (v / 256 / 256 % 256) as u8;
-    out[at + 3] = (v / 256 / 256 / 256 % 256) as u8;
-    out[at + 4] = (v / 256 / 256 / 256 / 256 % 256) as u8;
-    out[at + 5] = (v / 256 / 256 / 256 / 256 / 256 % 256) as u8;
 }
 
 fn put_head(out: &mut [u8], f: Frame)

@@ -5,4 +5,6 @@ pub mod element;
 pub mod field;
 pub mod frame;
 pub mod heard;
+mod put;
+pub mod report;
 pub mod shape;

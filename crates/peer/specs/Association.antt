@@ -8,7 +8,8 @@ use Rattle.octets.specs.declared.element.Comeback.the-variants.{Absent, Given}
 use Rattle.octets.specs.declared.element.Comeback.{Comeback}
 use Rattle.octets.specs.declared.heard.Kind.{Kind}
 use Rattle.peer.specs.Authentication.{requestedOf}
-use Rattle.peer.specs.Record.{houseHold, kindOf, sentOf}
+use Rattle.peer.specs.Moves.{movedOf}
+use Rattle.peer.specs.Record.{changedOf, houseHold, kindOf, sentOf}
 use Rattle.peer.specs.Settings.{ap}
 use Rattle.peer.specs.Turn.{admit, confirmOf, endedOf, soleOf, stillOf, toldOf, turnOf}
 use Rattle.peer.specs.declared.moves.Move.the-variants as move
@@ -45,3 +46,8 @@ responseHeard s p k status aid c =
     pick (eqb (sentOf (p .exchange)) (kindOf k))
     (pick (eqb status 0) (acceptedOf s p k aid) (rejectedOf s p k status c))
     (stillOf s p admit)
+
+-- "any other record in State 3 or 4 goes to State 2"; its exchange, time left and hold stay
+unfoldable pub partedOf : Record → Record
+partedOf p =
+    pick (ltb (p .state) 3) p (changedOf p (movedOf 0 (p .state) move.Drop) (p .exchange) (p .left) (p .hold))

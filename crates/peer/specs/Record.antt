@@ -45,6 +45,10 @@ isAssociating Authentication = false
 isAssociating Association = true
 isAssociating Reassociation = true
 
+-- State 3 or 4
+unfoldable pub isJoined : Record → Bool
+isJoined p = leb 3 (p .state)
+
 -- a (re)association is under way
 unfoldable pub associates : Record → Bool
 associates p = leb 2 (underWay (p .exchange))

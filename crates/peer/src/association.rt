@@ -1,6 +1,7 @@
 // (Re)association: the request heard at an AP, the response heard at a station.
 use crate::authentication::requested;
 use crate::moves::Move;
+use crate::moves::moved;
 use crate::record::Record;
 use crate::record::kind_number;
 use crate::record::sent;
@@ -14,7 +15,7 @@ use crate::turn::still;
 use octets::element::Comeback;
 use octets::heard::Kind;
 ghost use mathlib.Core.Path.{_≡_};
-ghost use Rattle.peer.specs.Association.{acceptedOf, comebackHold, rejectedOf, requestHeard, responseHeard};
+ghost use Rattle.peer.specs.Association.{acceptedOf, comebackHold, partedOf, rejectedOf, requestHeard, responseHeard};
 
 pub fn request_heard(s: Settings, p: Record, kind: Kind, current: u64) -> Turn
     ensures { λ r. ⌜ r ≡ requestHeard s p kind current ⌝ }
@@ -87,4 +88,16 @@ pub fn response_heard(
     } else {
         rejected(s, p, kind, status, c)
     }
+}
+
+// Another record when a station has joined here: State 3 or 4 goes to State 2, and the rest stays.
+pub fn parted(p: Record) -> Record
+    ensures { λ r. ⌜ r ≡ partedOf p ⌝ }
+{
+    if p.state < Record::STATE_3 {
+        return p;
+    }
+    let state = moved(0, p.state, Move::Drop);
+    let e = p.exchange;
+    p.changed(state, e, p.left, p.hold)
 }

@@ -1,7 +1,7 @@
 // A peer's record: its address, its state, the exchange under way and the times left.
 use octets::heard::Kind;
 ghost use mathlib.Core.Path.{_≡_};
-ghost use Rattle.peer.specs.Record.{askedOf, associates, awaitingOf, changedOf, freeOf, freshOf, isAssociating, isFree, kindOf, sentOf, underWay};
+ghost use Rattle.peer.specs.Record.{askedOf, associates, awaitingOf, changedOf, freeOf, freshOf, isAssociating, isFree, isJoined, kindOf, sentOf, underWay};
 
 // The exchange under way.
 pub enum Exchange {
@@ -162,6 +162,13 @@ impl Record {
         }
         let e = self.exchange;
         under_way(e) == 0
+    }
+
+    // Whether the peer is associated: State 3 or 4.
+    pub fn is_joined(self) -> bool
+        ensures { λ r. ⌜ r ≡ isJoined self ⌝ }
+    {
+        Record::STATE_3 <= self.state
     }
 
     // Whether a (re)association is under way.

@@ -29,7 +29,7 @@ octet-at-requires c κs = search needs
 
 returns : tie.Need-returns
 unfolding classOf
-returns c = search (tests, c .if1 .taken, ← c .before .octet-at .ensures)
+returns c = search (tests, ← c .before .octet-at .ensures)
 
 mul-entry : tie.Need-mul-entry
 mul-entry c = search needs

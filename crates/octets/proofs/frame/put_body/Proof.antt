@@ -1,6 +1,6 @@
 -- `octets::frame::put_body` meets its contract: the fields of each kind of body, one behind the other.
 -- Assumes nothing.
-use Rattle.octets.proofs.Put.{then}
+use Rattle.octets.proofs.Stores.{then}
 use Rattle.octets.specs.Field.{octets}
 use Rattle.octets.specs.Frame.{bodyOf}
 use borrow.Author.Needs.{needs}

@@ -1,6 +1,6 @@
 -- `octets::frame::put_head` meets its contract: six fields, one behind the other.
 -- Assumes nothing.
-use Rattle.octets.proofs.Put.{then}
+use Rattle.octets.proofs.Stores.{then}
 use Rattle.octets.specs.Field.{octets}
 use Rattle.octets.specs.Frame.{headOf}
 use borrow.Author.Needs.{needs}

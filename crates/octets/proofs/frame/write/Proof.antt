@@ -1,7 +1,7 @@
 -- `octets::frame::write` meets its contract: the header, and then the body behind it; a short buffer is not written.
 -- Assumes nothing.
 use Rattle.octets.proofs.Lengths.{body-short, bytes-length, head-length}
-use Rattle.octets.proofs.Put.{front, then}
+use Rattle.octets.proofs.Stores.{front, then}
 use Rattle.octets.specs.Frame.{bytesOf, lengthOf, writtenOf}
 use borrow.Author.Needs.{needs}
 use borrow.Author.Tests.{le-ltb, lt-ltb}

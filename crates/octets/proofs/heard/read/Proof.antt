@@ -11,7 +11,7 @@ octet-at-requires c κs = search needs
 
 returns : tie.Need-returns
 unfolding heardOf
-returns c = search (tests, c .if1 .taken, ← c .before .octet-at .ensures)
+returns c = search (tests, ← c .before .octet-at .ensures)
 
 response-requires : tie.Need-response-requires
 response-requires c κs = search needs
@@ -33,35 +33,35 @@ u16-at-requires-2 c κs = search needs
 
 returns-2 : tie.Need-returns-2
 unfolding heardOf
-returns-2 c = search (tests, c .match .keys1, c .before .if1 .left, ← c .before .before .octet-at .ensures)
+returns-2 c = search (tests, c .match .keys1, ← c .before .before .octet-at .ensures)
 
 returns-3 : tie.Need-returns-3
 unfolding heardOf
-returns-3 c = search (tests, ← c .response .ensures, c .before .match .keys2, c .before .before .if1 .left, ← c .before .before .before .octet-at .ensures)
+returns-3 c = search (tests, ← c .response .ensures, c .before .match .keys2, ← c .before .before .before .octet-at .ensures)
 
 returns-4 : tie.Need-returns-4
 unfolding heardOf
-returns-4 c = search (tests, ← c .address-at .ensures, c .before .match .keys3, c .before .before .if1 .left, ← c .before .before .before .octet-at .ensures)
+returns-4 c = search (tests, ← c .address-at .ensures, c .before .match .keys3, ← c .before .before .before .octet-at .ensures)
 
 returns-5 : tie.Need-returns-5
 unfolding heardOf
-returns-5 c = search (tests, ← c .response2 .ensures, c .before .match .keys4, c .before .before .if1 .left, ← c .before .before .before .octet-at .ensures)
+returns-5 c = search (tests, ← c .response2 .ensures, c .before .match .keys4, ← c .before .before .before .octet-at .ensures)
 
 returns-6 : tie.Need-returns-6
 unfolding heardOf
-returns-6 c = search (tests, ← c .u16-at .ensures, c .before .match .keys5, c .before .before .if1 .left, ← c .before .before .before .octet-at .ensures)
+returns-6 c = search (tests, ← c .u16-at .ensures, c .before .match .keys5, ← c .before .before .before .octet-at .ensures)
 
 returns-7 : tie.Need-returns-7
 unfolding heardOf
-returns-7 c = search (tests, ← c .authentication .ensures, c .before .match .keys6, c .before .before .if1 .left, ← c .before .before .before .octet-at .ensures)
+returns-7 c = search (tests, ← c .authentication .ensures, c .before .match .keys6, ← c .before .before .before .octet-at .ensures)
 
 returns-8 : tie.Need-returns-8
 unfolding heardOf
-returns-8 c = search (tests, ← c .u16-at2 .ensures, c .before .match .keys7, c .before .before .if1 .left, ← c .before .before .before .octet-at .ensures)
+returns-8 c = search (tests, ← c .u16-at2 .ensures, c .before .match .keys7, ← c .before .before .before .octet-at .ensures)
 
 returns-9 : tie.Need-returns-9
 unfolding heardOf
-returns-9 c = search (tests, c .before .if1 .left, ← c .before .before .octet-at .ensures)
+returns-9 c = search (tests, ← c .before .before .octet-at .ensures)
 
 pub read-spec : {M : Type 1} → statement M
 read-spec =

@@ -1,12 +1,12 @@
--- `octets::frame::put_address` meets its contract: six stores, one behind the other.
+-- `octets::put::put_address` meets its contract: six stores, one behind the other.
 -- Assumes nothing.
 use Rattle.octets.specs.Field.{octets}
 use borrow.Author.Needs.{needs}
 use lib.ListN.{length-set}
 use native.Mathlib.Numerals.{towards-suc}
 use native.Mathlib.Omega.{arith}
-use Rattle.octets.proofs.frame.put_address.Statement.{statement}
-use Rattle.octets.proofs.frame.put_address.Tie as tie
+use Rattle.octets.proofs.put.put_address.Statement.{statement}
+use Rattle.octets.proofs.put.put_address.Tie as tie
 
 cast-out : tie.Need-cast-out
 cast-out c = search needs

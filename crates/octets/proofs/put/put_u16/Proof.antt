@@ -1,12 +1,12 @@
--- `octets::frame::put_u16` meets its contract: two stores, one behind the other.
+-- `octets::put::put_u16` meets its contract: two stores, one behind the other.
 -- Assumes nothing.
 use Rattle.octets.specs.Field.{octets}
 use borrow.Author.Needs.{needs}
 use lib.ListN.{length-set}
 use native.Mathlib.Numerals.{add-one}
 use native.Mathlib.Omega.{arith}
-use Rattle.octets.proofs.frame.put_u16.Statement.{statement}
-use Rattle.octets.proofs.frame.put_u16.Tie as tie
+use Rattle.octets.proofs.put.put_u16.Statement.{statement}
+use Rattle.octets.proofs.put.put_u16.Tie as tie
 
 cast-out : tie.Need-cast-out
 cast-out c = search needs

@@ -1,0 +1,67 @@
+-- `table::receive::heard_at` meets its contract: each arm by its case.
+-- Assumes nothing.
+use Rattle.octets.proofs.Branch.{tests}
+use borrow.Author.Needs.{needs}
+use Rattle.table.proofs.receive.heard_at.Statement.{statement}
+use Rattle.table.proofs.receive.heard_at.Tie as tie
+
+enum-known-r : tie.Need-enum-known-r
+enum-known-r c = search needs
+
+refused-requires : tie.Need-refused-requires
+refused-requires c κs = search needs
+
+enum-told : tie.Need-enum-told
+enum-told c = search needs
+
+verdict-requires : tie.Need-verdict-requires
+verdict-requires c κs = search needs
+
+settled-requires : tie.Need-settled-requires
+settled-requires c κs = search needs
+
+enum-told-2 : tie.Need-enum-told-2
+enum-told-2 c = search needs
+
+verdict-requires-2 : tie.Need-verdict-requires-2
+verdict-requires-2 c κs = search needs
+
+settled-requires-2 : tie.Need-settled-requires-2
+settled-requires-2 c κs = search needs
+
+enum-known-r-2 : tie.Need-enum-known-r-2
+enum-known-r-2 c = search needs
+
+heard-from-requires : tie.Need-heard-from-requires
+heard-from-requires c κs = search needs
+
+returns : tie.Need-returns
+returns c = search (tests, ← c .refused .ensures, c .before .before .r .given .1)
+
+returns-2 : tie.Need-returns-2
+returns-2 c = search (tests, ← c .settled .ensures, ← c .before .verdict .ensures, c .before .before .enum-told .given .1)
+
+returns-3 : tie.Need-returns-3
+returns-3 c = search (tests, ← c .settled2 .ensures, ← c .before .verdict2 .ensures, c .before .before .enum-told2 .given .1)
+
+returns-4 : tie.Need-returns-4
+returns-4 c = search (tests, ← c .heard-from .ensures, c .before .before .r2 .given .1)
+
+pub heard-at-spec : {M : Type 1} → statement M
+heard-at-spec =
+    tie.close
+    (tie.spec
+    enum-known-r
+    refused-requires
+    enum-told
+    verdict-requires
+    settled-requires
+    enum-told-2
+    verdict-requires-2
+    settled-requires-2
+    enum-known-r-2
+    heard-from-requires
+    returns
+    returns-2
+    returns-3
+    returns-4)

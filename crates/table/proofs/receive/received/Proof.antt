@@ -1,0 +1,52 @@
+-- `table::receive::received` meets its contract: each answer by the tests that led to it and what its callees ensure.
+-- Assumes nothing.
+use Rattle.octets.proofs.Branch.{tests}
+use Rattle.table.specs.Receive.{receivedOf}
+use borrow.Author.Needs.{needs}
+use borrow.Author.Tests.{le-ltb}
+use Rattle.table.proofs.receive.received.Statement.{statement}
+use Rattle.table.proofs.receive.received.Tie as tie
+
+refused-requires : tie.Need-refused-requires
+refused-requires c κs = search needs
+
+returns : tie.Need-returns
+unfolding receivedOf
+returns c = search (tests, ← c .refused .ensures)
+
+check-requires : tie.Need-check-requires
+check-requires c κs = search needs
+
+refused-requires-2 : tie.Need-refused-requires-2
+refused-requires-2 c κs = search needs
+
+returns-2 : tie.Need-returns-2
+unfolding receivedOf
+returns-2 c = rw (le-ltb _ _ (c .before .before .before .if1 .left), ← c .before .before .check .ensures .0, c .before .if2 .left) (c .refused2 .ensures)
+
+slice-aggregate-heard-at : tie.Need-slice-aggregate-heard-at
+slice-aggregate-heard-at c = search needs
+
+read-requires : tie.Need-read-requires
+read-requires c κs = search needs
+
+heard-at-requires : tie.Need-heard-at-requires
+heard-at-requires c κs = search needs
+
+returns-3 : tie.Need-returns-3
+unfolding receivedOf
+returns-3 c = rw (le-ltb _ _ (c .before .before .before .before .before .before .if1 .left), ← c .before .before .before .before .before .check .ensures .0, c .before .before .before .before .if2 .taken, ← c .before .before .before .before .before .check .ensures .1, ← c .before .read .ensures) (c .heard-at .ensures)
+
+pub received-spec : {M : Type 1} → statement M
+received-spec =
+    tie.close
+    (tie.spec
+    refused-requires
+    returns
+    check-requires
+    refused-requires-2
+    returns-2
+    slice-aggregate-heard-at
+    read-requires
+    heard-at-requires
+    returns-3)

@@ -1,0 +1,30 @@
+-- `table::seat::turn_in` meets its contract: each arm by its case.
+-- Assumes nothing.
+use Rattle.octets.proofs.Branch.{tests}
+use Rattle.octets.proofs.Table.{at}
+use borrow.Author.Needs.{needs}
+use Rattle.table.proofs.seat.turn_in.Statement.{statement}
+use Rattle.table.proofs.seat.turn_in.Tie as tie
+
+enum-told : tie.Need-enum-told
+enum-told c = search needs
+
+newcomer-requires : tie.Need-newcomer-requires
+newcomer-requires c κs = search needs
+
+enum-known-at : tie.Need-enum-known-at
+enum-known-at c = search needs
+
+seated-requires : tie.Need-seated-requires
+seated-requires c κs = search needs
+
+returns : tie.Need-returns
+returns c = search (tests, ← c .newcomer .ensures, c .before .enum-told .given .1)
+
+returns-2 : tie.Need-returns-2
+returns-2 c = search (tests, ← c .seated .ensures, c .before .before .at .given .1)
+
+pub turn-in-spec : {M : Type 1} → statement M
+turn-in-spec =
+    tie.close
+    (tie.spec enum-told newcomer-requires enum-known-at seated-requires returns returns-2)

@@ -1,0 +1,52 @@
+-- 01, "Primitives from our own side", in the table: "primitives 1, 2, 3, 5, 9, 7, 8, 6".
+-- Assumes nothing.
+use Prim.Native.Nat.{ℕ}
+use mathlib.Core.Bool.{Bool, true, false, not, _&&_, _||_}
+use mathlib.Core.List.{List, [], _∷_, _++_}
+use lib.Dec.{ltb, eqb}
+use Rattle.octets.specs.Address.{validOf}
+use Rattle.peer.specs.Refuse.{codeAllowed, roleAllowed, conflictOf, mismatchOf, heldOf}
+use Rattle.peer.specs.Ask.{askOf}
+use Rattle.peer.specs.declared.settings.Settings.{Settings}
+use Rattle.peer.specs.declared.record.Record.{Record}
+use Rattle.peer.specs.declared.refuse.Others.{Others}
+use Rattle.table.specs.Places.{onFound, addressesOf, findOf}
+use Rattle.table.specs.Fit.{wellFormed}
+use Rattle.table.specs.Others.{othersOf}
+use Rattle.table.specs.Refusals.{firstOf, unless}
+use Rattle.table.specs.Seat.{peerOf, aidOf, turnIn}
+use Rattle.table.specs.declared.places.Found.{Found}
+use Rattle.table.specs.declared.answer.Met.{Met}
+
+-- 3: not "unknown primitive; peer address invalid or own; code not allowed"
+unfoldable pub mayAsk : Settings → ℕ → ℕ → ℕ → Bool
+mayAsk s q a c = codeAllowed q c && (not (eqb a (s .own)) && validOf a)
+
+-- 6: "a new record is needed by a primitive and no place is free". "Only 1 makes a record."
+unfoldable pub noPlace : Found → Found → ℕ → Bool
+noPlace at free q = eqb q 1 && (onFound at true (λ i. false) && onFound free true (λ i. false))
+
+-- The refusals after 1 and 2, for a peer with record p, found at a place or not, and the lowest free place.
+abbrev pub refusalsAt : Settings → Record → Others → Found → Found → ℕ → ℕ → ℕ → List (ℕ × Bool)
+refusalsAt s p o at free q a c =
+    (3, not (mayAsk s q a c))
+    ∷ (5, not (roleAllowed q (s .role)))
+    ∷ (9, conflictOf p o q)
+    ∷ (7, mismatchOf p o q)
+    ∷ (8, heldOf p q)
+    ∷ (6, noPlace at free q)
+    ∷ []
+
+-- A primitive in a table with these addresses, once 1 and 2 do not apply.
+unfoldable pub askedAt : Settings → List Record → List ℕ → ℕ → ℕ → ℕ → Met
+askedAt s t ads q a c =
+    unless (firstOf (refusalsAt s (peerOf t (findOf ads a) a) (othersOf s t) (findOf ads a) (findOf ads 0) q a c)) t
+    (turnIn t (findOf ads a) (findOf ads 0)
+    (askOf s (aidOf (findOf ads a)) (peerOf t (findOf ads a) a) (othersOf s t) q c)
+    (askOf s (aidOf (findOf ads a)) (peerOf t (findOf ads a) a) (othersOf s t) q c))
+
+-- A primitive, lent a buffer of n octets.
+unfoldable pub askedOf : Settings → List Record → ℕ → ℕ → ℕ → ℕ → Met
+askedOf s t q a c n =
+    unless (firstOf ((1, ltb n 34) ∷ (2, not (wellFormed s t)) ∷ [])) t
+    (askedAt s t (addressesOf t) q a c)

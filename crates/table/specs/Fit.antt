@@ -1,0 +1,34 @@
+-- 01, "Well formed": every clause, for settings and table. (That there are 32 records is the table's type.)
+-- Assumes nothing.
+use Prim.Native.Nat.{ℕ}
+use mathlib.Core.Bool.{Bool, true, false, not, _&&_, _||_}
+use mathlib.Core.List.{List}
+use lib.Dec.{leb, eqb}
+use Rattle.peer.specs.Settings.{ap, settingsFit}
+use Rattle.peer.specs.Record.{isJoined, associates}
+use Rattle.peer.specs.Fit.{placeFits}
+use Rattle.peer.specs.declared.settings.Settings.{Settings}
+use Rattle.peer.specs.declared.record.Record.{Record}
+use Rattle.table.specs.Places.{allTails, allOf, countOf, addressesOf}
+use Rattle.table.specs.declared.fit.Counts.{Counts}
+
+-- "outside free places no address is .. in two places": an address is 0, or in no later place
+abbrev pub apart : ℕ → ℕ → Bool
+apart a b = not (eqb b a)
+
+unfoldable pub aloneIn : ℕ → List ℕ → Bool
+aloneIn a ads = eqb a 0 || allOf (apart a) ads
+
+abbrev pub distinctOf : List ℕ → Bool
+distinctOf ads = allTails aloneIn ads
+
+unfoldable pub crowdOf : List Record → Counts
+crowdOf t = record { joined = countOf isJoined t; associating = countOf associates t }
+
+-- "a station has at most one record in State 3 or 4 and at most one (re)association under way"
+unfoldable pub sparseOf : Settings → List Record → Bool
+sparseOf s t = eqb (s .role) ap || (leb (crowdOf t .joined) 1 && leb (crowdOf t .associating) 1)
+
+-- "settings in range and own address valid"; "each in State 1 to 4 or all zero", exchanges and times as they must be; the two above
+unfoldable pub wellFormed : Settings → List Record → Bool
+wellFormed s t = settingsFit s && (allOf (placeFits s) t && (distinctOf (addressesOf t) && sparseOf s t))

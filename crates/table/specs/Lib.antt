@@ -1,0 +1,11 @@
+pub mod Places
+pub mod Fit
+pub mod Others
+pub mod Answer
+pub mod Seat
+pub mod Refusals
+pub mod Read
+pub mod Receive
+pub mod Ask
+pub mod Pass
+pub mod Step

@@ -1,0 +1,45 @@
+-- 01, A received frame, 1 to 5: what is settled before the table is looked at.
+-- Assumes nothing.
+use Prim.Native.Nat.{ℕ}
+use mathlib.Core.Bool.{Bool, not, _||_}
+use mathlib.Core.List.{List}
+use lib.Dec.{eqb}
+use Rattle.octets.specs.Pick.{pick}
+use Rattle.octets.specs.Address.{validOf, groupOf}
+use Rattle.octets.specs.Field.{field}
+use Rattle.octets.specs.Class.{classOf}
+use Rattle.octets.specs.Heard.{heardOf}
+use Rattle.octets.specs.Shape.{shapeOf}
+use Rattle.octets.specs.declared.shape.Shape.{Shape}
+use Rattle.octets.specs.declared.shape.Shape.the-variants.{Misfit, Classless, Bare, Full}
+use Rattle.table.specs.declared.read.Reading.{Reading}
+use Rattle.table.specs.declared.read.Reading.the-variants.{Refused, Discarded, Admitted, From}
+
+-- "Address 1 is neither own nor a group address"
+unfoldable pub forUs : ℕ → ℕ → Bool
+forUs own to = eqb to own || groupOf to
+
+-- 4. "Address 1 (octets 4-9) foreign: 4. CTS and ACK: admit, done, no peer."
+unfoldable pub readBare : ℕ → List ℕ → Reading
+readBare own xs = pick (forUs own (field 6 4 xs)) Admitted (Refused 4)
+
+unfoldable pub readFrom : ℕ → ℕ → List ℕ → Reading
+readFrom peer to xs = From peer (groupOf to) (classOf xs) (heardOf xs)
+
+-- 4., then 5. "Address 2 (octets 10-15) invalid or own: 3. It names the peer."
+unfoldable pub readFull : ℕ → List ℕ → Reading
+readFull own xs =
+    pick (not (forUs own (field 6 4 xs))) (Refused 4)
+    (pick (eqb (field 6 10 xs) own || not (validOf (field 6 10 xs))) (Refused 3)
+    (readFrom (field 6 10 xs) (field 6 4 xs) xs))
+
+-- 1. to 3. are the frame's shape: "Under 10 or over 4,096 bytes: 3"; "Version not 0, or no class: discard, nothing else"; "Below its least
+-- length: 3".
+abbrev pub readAs : Shape → ℕ → List ℕ → Reading
+readAs Misfit own xs = Refused 3
+readAs Classless own xs = Discarded
+readAs Bare own xs = readBare own xs
+readAs Full own xs = readFull own xs
+
+unfoldable pub readOf : ℕ → List ℕ → Reading
+readOf own xs = readAs (shapeOf xs) own xs

@@ -1,0 +1,42 @@
+-- 01, "A received frame": the steps in their order.
+-- Assumes nothing.
+use Prim.Native.Nat.{ℕ}
+use mathlib.Core.Bool.{Bool, not}
+use mathlib.Core.List.{List}
+use lib.Dec.{ltb}
+use Rattle.octets.specs.Pick.{pick}
+use Rattle.octets.specs.declared.class.FrameClass.{FrameClass}
+use Rattle.octets.specs.declared.heard.Heard.{Heard}
+use Rattle.peer.specs.Turn.{admit, discard}
+use Rattle.peer.specs.Authentication.{fullOf}
+use Rattle.peer.specs.Hear.{hearOf}
+use Rattle.peer.specs.declared.settings.Settings.{Settings}
+use Rattle.peer.specs.declared.record.Record.{Record}
+use Rattle.table.specs.Places.{addressesOf, findOf}
+use Rattle.table.specs.Fit.{wellFormed}
+use Rattle.table.specs.Read.{readOf}
+use Rattle.table.specs.Answer.{verdictAnswer, settledOf, refusedOf}
+use Rattle.table.specs.Seat.{peerOf, turnIn}
+use Rattle.table.specs.declared.read.Reading.{Reading}
+use Rattle.table.specs.declared.read.Reading.the-variants.{Refused, Discarded, Admitted, From}
+use Rattle.table.specs.declared.answer.Met.{Met}
+
+-- 6. to 8., with the table's addresses: the peer's turn; of an authentication that needs a record where no place is free, "reply status 17".
+unfoldable pub heardFrom : Settings → List Record → List ℕ → ℕ → Bool → FrameClass → Heard → Met
+heardFrom s t ads peer group k h =
+    turnIn t (findOf ads peer) (findOf ads 0)
+    (hearOf s (peerOf t (findOf ads peer) peer) k group h)
+    (fullOf s (peerOf t (findOf ads peer) peer))
+
+abbrev pub heardAt : Settings → List Record → List ℕ → Reading → Met
+heardAt s t ads (Refused n) = refusedOf t n
+heardAt s t ads Discarded = settledOf t (verdictAnswer discard)
+heardAt s t ads Admitted = settledOf t (verdictAnswer admit)
+heardAt s t ads (From peer group k h) = heardFrom s t ads peer group k h
+
+-- A frame xs, lent a buffer of n octets. 1. "Refusals 1, 2", then as it reads.
+unfoldable pub receivedOf : Settings → List Record → List ℕ → ℕ → Met
+receivedOf s t xs n =
+    pick (ltb n 34) (refusedOf t 1)
+    (pick (not (wellFormed s t)) (refusedOf t 2)
+    (heardAt s t (addressesOf t) (readOf (s .own) xs)))

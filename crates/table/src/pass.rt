@@ -1,0 +1,92 @@
+// A clock step: every time falls, exchanges end with a report, and places are freed.
+use crate::answer::Answer;
+use crate::answer::Stepped;
+use crate::fit::check;
+use octets::report::write_report;
+use peer::record::Record;
+use peer::settings::Settings;
+use peer::tick::tick;
+ghost use mathlib.Core.Path.{_≡_};
+ghost use Prim.Native.Nat.{_+_, _≤_};
+ghost use lib.ListN.{length};
+ghost use lib.Seq.{sets};
+ghost use Rattle.table.specs.Refusals.{firstOf};
+ghost use Rattle.table.specs.Pass.{reportFor, reportsOf, clockedOf, passRefusals, passedOf, passedIn};
+
+// The table after a clock step, and how many octets of reports were written.
+pub struct Clocked {
+    pub table: [Record; 32],
+    pub written: u16,
+}
+
+// Writes the report of a place, if an exchange ended there, and gives where the next goes.
+fn put_report(out: &mut [u8], n: usize, place: u8, kind: u8, address: u64) -> usize
+    requires { ⌜ n + 8 ≤ length (now out) ⌝ }
+    ensures { λ r. ⌜ (r ≡ n + length (reportFor place kind address)) × (now (out .exit) ≡ sets (now (out .entry)) n (reportFor place kind address)) ⌝ }
+{
+    if kind == 0 {
+        return n;
+    }
+    write_report(out, n, place, kind, address);
+    n + 8
+}
+
+fn clock(s: Settings, t: [Record; 32], d: u16, out: &mut [u8]) -> Clocked
+    requires { ⌜ 256 ≤ length (now out) ⌝ }
+    ensures { λ r. ⌜ (r ≡ clockedOf s t d) × (now (out .exit) ≡ sets (now (out .entry)) 0 (reportsOf s d 0 t)) ⌝ }
+{
+    let mut next = t;
+    let mut n = 0;
+    let mut i = 0;
+    while i < 32 {
+        let p = next[i];
+        let q = tick(s, p, d);
+        n = put_report(&mut *out, n, i as u8, q.report, p.address);
+        let after = q.peer;
+        next[i] = after;
+        i += 1;
+    }
+    Clocked {
+        table: next,
+        written: n as u16,
+    }
+}
+
+// The first refusal that applies; 0 where none does.
+fn refusal(s: Settings, t: [Record; 32], d: u16, room: usize) -> u8
+    ensures { λ r. ⌜ r ≡ firstOf (passRefusals s t d room) ⌝ }
+{
+    if room < 256 {
+        return 1;
+    }
+    let c = check(s, t);
+    if c.ok {} else {
+        return 2;
+    }
+    if d == 0 { 3 } else { 0 }
+}
+
+// A clock step of d TU: the table after it, the answer, and the reports in the buffer.
+pub fn pass(s: Settings, t: [Record; 32], d: u16, out: &mut [u8]) -> Stepped
+    ensures { λ r. ⌜ (r ≡ passedOf s t d (length (now (out .entry)))) × (now (out .exit) ≡ passedIn s t d (now (out .entry))) ⌝ }
+{
+    if out.len() < 256 {
+        return Stepped {
+            table: t,
+            answer: Answer::refusal(1),
+        };
+    }
+    let n = refusal(s, t, d, out.len());
+    if n != 0 {
+        return Stepped {
+            table: t,
+            answer: Answer::refusal(n),
+        };
+    }
+    let c = clock(s, t, d, out);
+    let table = c.table;
+    Stepped {
+        table,
+        answer: Answer::refusal(0).count(c.written),
+    }
+}

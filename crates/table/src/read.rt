@@ -1,0 +1,89 @@
+// A received frame, read once: the steps that are settled before the table is looked at.
+use octets::address::group;
+use octets::address::valid;
+use octets::class::FrameClass;
+use octets::class::class;
+use octets::field::address_at;
+use octets::heard::Heard;
+use octets::shape::Shape;
+use octets::shape::measure;
+ghost use mathlib.Core.Path.{_≡_};
+ghost use Rattle.table.specs.Read.{forUs, readBare, readFrom, readFull, readOf};
+
+pub enum Reading {
+    // A refusal number.
+    Refused(u8),
+    // Discard, nothing else.
+    Discarded,
+    // Admit, no peer.
+    Admitted,
+    // From a peer; whether Address 1 is a group address.
+    From {
+        peer: u64,
+        group: bool,
+        class: FrameClass,
+        heard: Heard,
+    },
+}
+
+// Whether Address 1 is our own or a group address.
+fn for_us(own: u64, to: u64) -> bool
+    ensures { λ r. ⌜ r ≡ forUs own to ⌝ }
+{
+    if to == own {
+        return true;
+    }
+    group(to)
+}
+
+fn read_bare(own: u64, frame: &[u8]) -> Reading
+    ensures { λ r. ⌜ r ≡ readBare own (now (frame .entry)) ⌝ }
+{
+    if for_us(own, address_at(frame, 4)) {
+        Reading::Admitted
+    } else {
+        Reading::Refused(4)
+    }
+}
+
+// A frame from a peer.
+fn read_from(peer: u64, to: u64, frame: &[u8]) -> Reading
+    ensures { λ r. ⌜ r ≡ readFrom peer to (now (frame .entry)) ⌝ }
+{
+    Reading::From {
+        peer,
+        group: group(to),
+        class: class(frame),
+        heard: octets::heard::read(frame),
+    }
+}
+
+fn read_full(own: u64, frame: &[u8]) -> Reading
+    ensures { λ r. ⌜ r ≡ readFull own (now (frame .entry)) ⌝ }
+{
+    let to = address_at(frame, 4);
+    if for_us(own, to) {} else {
+        return Reading::Refused(4);
+    }
+    let peer = address_at(frame, 10);
+    if peer == own {
+        return Reading::Refused(3);
+    }
+    if valid(peer) {
+        read_from(peer, to, frame)
+    } else {
+        Reading::Refused(3)
+    }
+}
+
+pub fn read(own: u64, frame: &[u8]) -> Reading
+    ensures { λ r. ⌜ r ≡ readOf own (now (frame .entry)) ⌝ }
+{
+    let shape = measure(frame);
+    match shape {
+        Shape::Misfit => Reading::Refused(3),
+        Shape::Classless => Reading::Discarded,
+        Shape::Bare => read_bare(own, frame),
+        Shape::Full => read_full(own, frame),
+    }
+}

@@ -1,0 +1,37 @@
+// One event: a frame, a primitive or a clock step.
+use crate::answer::Stepped;
+use crate::ask::ask;
+use crate::pass::pass;
+use crate::receive::receive;
+use peer::record::Record;
+use peer::settings::Settings;
+ghost use mathlib.Core.Path.{_≡_};
+ghost use lib.ListN.{length};
+ghost use Rattle.table.specs.Step.{stepOf, stepIn};
+
+pub enum Event {
+    // A frame, whose octets are lent beside the event.
+    Frame,
+    Ask {
+        primitive: u8,
+        address: u64,
+        code: u16,
+    },
+    // A clock step in TU.
+    Clock(u16),
+}
+
+// An event: the table after it, the answer, and what it writes into the buffer.
+pub fn step(s: Settings, t: [Record; 32], e: Event, frame: &[u8], out: &mut [u8]) -> Stepped
+    ensures { λ r. ⌜ (r ≡ stepOf s t e (now (frame .entry)) (length (now (out .entry)))) × (now (out .exit) ≡ stepIn s t e (now (frame .entry)) (now (out .entry))) ⌝ }
+{
+    match e {
+        Event::Frame => receive(s, t, frame, out),
+        Event::Ask {
+            primitive,
+            address,
+            code,
+        } => ask(s, t, primitive, address, code, out),
+        Event::Clock(d) => pass(s, t, d, out),
+    }
+}
