@@ -61,19 +61,10 @@ pub fn barred(s: Settings, p: Record, class: FrameClass, group: bool, h: Heard) 
     }
     match h {
         Heard::Other => filtered(s, p, class),
-        Heard::Authentication {
-            algorithm: _,
-            transaction: _,
-            status: _,
-        } => filtered(s, p, class),
+        Heard::Authentication { .. } => filtered(s, p, class),
         Heard::Deauthentication(_) => filtered(s, p, class),
         Heard::Disassociation(_) => filtered(s, p, class),
         Heard::Request { kind, current: _ } => request_barred(s, p, class, kind),
-        Heard::Response {
-            kind: _,
-            status: _,
-            aid: _,
-            comeback: _,
-        } => filtered(s, p, class),
+        Heard::Response { .. } => filtered(s, p, class),
     }
 }

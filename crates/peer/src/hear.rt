@@ -22,23 +22,11 @@ fn is_exchange(h: Heard) -> bool
 {
     match h {
         Heard::Other => false,
-        Heard::Authentication {
-            algorithm: _,
-            transaction: _,
-            status: _,
-        } => true,
+        Heard::Authentication { .. } => true,
         Heard::Deauthentication(_) => false,
         Heard::Disassociation(_) => false,
-        Heard::Request {
-            kind: _,
-            current: _,
-        } => true,
-        Heard::Response {
-            kind: _,
-            status: _,
-            aid: _,
-            comeback: _,
-        } => true,
+        Heard::Request { .. } => true,
+        Heard::Response { .. } => true,
     }
 }
 

@@ -9,3 +9,4 @@ pub mod Receive
 pub mod Ask
 pub mod Pass
 pub mod Step
+pub mod Marked

@@ -1,0 +1,77 @@
+-- `bench::input::take` meets its contract: each answer by the tests that led to it and what its callees ensure.
+-- Assumes nothing.
+use Rattle.bench.specs.Input.{takenOf}
+use Rattle.octets.proofs.Branch.{tests}
+use borrow.Author.Needs.{needs}
+use borrow.Author.Tests.{le-ltb}
+use mathlib.Core.Path.{ap}
+use Rattle.bench.specs.declared.input.Taken.the-variants.{First, Next}
+use Rattle.bench.proofs.input.take.Statement.{statement}
+use Rattle.bench.proofs.input.take.Tie as tie
+
+returns : tie.Need-returns
+unfolding takenOf
+returns c = search tests
+
+is-marked-requires : tie.Need-is-marked-requires
+is-marked-requires c κs = search needs
+
+returns-2 : tie.Need-returns-2
+unfolding takenOf
+returns-2 c = search (tests, c .if2 .left, ← c .before .is-marked .ensures)
+
+octet-at-requires : tie.Need-octet-at-requires
+octet-at-requires c κs = search needs
+
+u16-at-requires : tie.Need-u16-at-requires
+u16-at-requires c κs = search needs
+
+length-allowed-requires : tie.Need-length-allowed-requires
+length-allowed-requires c κs = search needs
+
+returns-3 : tie.Need-returns-3
+unfolding takenOf
+returns-3 c = search (tests, c .if3 .left, ← c .before .length-allowed .ensures, ← c .before .before .u16-at .ensures, ← c .before .before .before .octet-at .ensures, c .before .before .before .before .if2 .taken, ← c .before .before .before .before .before .is-marked .ensures)
+
+sub-if4 : tie.Need-sub-if4
+sub-if4 c = search needs
+
+cast-if4 : tie.Need-cast-if4
+cast-if4 c = search needs
+
+returns-4 : tie.Need-returns-4
+unfolding takenOf
+returns-4 c = search (tests, c .before .if3 .taken, ← c .before .before .length-allowed .ensures, ← c .before .before .before .u16-at .ensures, ← c .before .before .before .before .octet-at .ensures, c .before .before .before .before .before .if2 .taken, ← c .before .before .before .before .before .before .is-marked .ensures)
+
+settings-at-requires : tie.Need-settings-at-requires
+settings-at-requires c κs = search needs
+
+event-at-requires : tie.Need-event-at-requires
+event-at-requires c κs = search needs
+
+returns-5 : tie.Need-returns-5
+unfolding takenOf
+returns-5 c = rw (le-ltb _ _ (c .before .before .before .before .before .before .before .before .before .if1 .left), ← c .before .before .before .before .before .before .before .before .is-marked .ensures, c .before .before .before .before .before .before .before .if2 .taken, ← c .before .before .before .before .before .before .octet-at .ensures, ← c .before .before .before .before .before .u16-at .ensures, ← c .before .before .before .before .length-allowed .ensures, c .before .before .before .if3 .taken, le-ltb _ _ (c .before .before .if4 .left), c .before .if5 .taken) (ap First (c .settings-at .ensures))
+
+returns-6 : tie.Need-returns-6
+unfolding takenOf
+returns-6 c = rw (le-ltb _ _ (c .before .before .before .before .before .before .before .before .before .if1 .left), ← c .before .before .before .before .before .before .before .before .is-marked .ensures, c .before .before .before .before .before .before .before .if2 .taken, ← c .before .before .before .before .before .before .octet-at .ensures, ← c .before .before .before .before .before .u16-at .ensures, ← c .before .before .before .before .length-allowed .ensures, c .before .before .before .if3 .taken, le-ltb _ _ (c .before .before .if4 .left), c .before .if5 .left) (ap Next (c .event-at .ensures))
+
+pub take-spec : {M : Type 1} → statement M
+take-spec =
+    tie.close
+    (tie.spec
+    returns
+    is-marked-requires
+    returns-2
+    octet-at-requires
+    u16-at-requires
+    length-allowed-requires
+    returns-3
+    sub-if4
+    cast-if4
+    returns-4
+    settings-at-requires
+    event-at-requires
+    returns-5
+    returns-6)

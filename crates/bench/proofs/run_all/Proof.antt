@@ -1,0 +1,60 @@
+-- `bench::run_all` meets its contract: both buffers keep their length, and the turns fall.
+-- Assumes nothing.
+use borrow.Author.Needs.{needs}
+use lib.ListN.{length}
+use mathlib.Core.Path.{_≡_}
+use Rattle.bench.proofs.run_all.Statement.{statement}
+use Rattle.bench.proofs.run_all.Tie as tie
+
+abbrev Inv-loop : tie.InvT-loop
+Inv-loop trace input₀ output₀ r₀ turns₀ input output r turns = (length input ≡ 65536) × (length output ≡ 65536)
+
+abbrev μ-loop : tie.MeasureT-loop
+μ-loop trace input₀ output₀ r₀ turns₀ input output r turns = turns
+
+new-requires : tie.Need-new-requires Inv-loop μ-loop
+new-requires c κs = search needs
+
+loop-holds : tie.Need-loop-holds Inv-loop μ-loop
+loop-holds c = search needs
+
+returns : tie.Need-returns Inv-loop μ-loop
+returns c = search needs
+
+slice-aggregate-round : tie.Need-slice-aggregate-round Inv-loop μ-loop
+slice-aggregate-round c = search needs
+
+slice-aggregate-round-2 : tie.Need-slice-aggregate-round-2 Inv-loop μ-loop
+slice-aggregate-round-2 c = search needs
+
+round-requires : tie.Need-round-requires Inv-loop μ-loop
+round-requires c κs = search needs
+
+sub-turns : tie.Need-sub-turns Inv-loop μ-loop
+sub-turns c = search needs
+
+loop-less : tie.Need-loop-less Inv-loop μ-loop
+loop-less c = search needs
+
+loop-again : tie.Need-loop-again Inv-loop μ-loop
+loop-again c = search needs
+
+returns-2 : tie.Need-returns-2 Inv-loop μ-loop
+returns-2 c = search needs
+
+pub run-all-spec : {M : Type 1} → statement M
+run-all-spec =
+    tie.close
+    (tie.spec
+    Inv-loop
+    μ-loop
+    new-requires
+    loop-holds
+    returns
+    slice-aggregate-round
+    slice-aggregate-round-2
+    round-requires
+    sub-turns
+    loop-less
+    loop-again
+    returns-2)

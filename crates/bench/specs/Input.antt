@@ -1,0 +1,51 @@
+-- 01, "The bench program": "Standard input holds records: mark 0B 03, kind (1 octet), length (2), body; numbers little-endian."
+-- Assumes nothing.
+use Prim.Native.Nat.{ℕ, _-_, _+_}
+use mathlib.Core.Bool.{Bool, not, _&&_}
+use mathlib.Core.List.{List}
+use lib.Dec.{ltb, leb, eqb}
+use lib.ListN.{length}
+use Rattle.octets.specs.Pick.{pick}
+use Rattle.octets.specs.Field.{field}
+use Rattle.peer.specs.declared.settings.Settings.{Settings}
+use Rattle.table.specs.declared.step.Event.{Event}
+use Rattle.table.specs.declared.step.Event.the-variants.{Frame, Ask, Clock}
+use Rattle.bench.specs.declared.input.Taken.{Taken}
+use Rattle.bench.specs.declared.input.Taken.the-variants.{Cut, Fault, First, Next}
+
+-- mark 0B 03
+unfoldable pub marked : List ℕ → Bool
+marked xs = eqb (field 2 0 xs) 0x030b
+
+-- "Kind 0, first and only there: .. 12 octets. Kind 1: .. 9. Kind 2: a frame, 0 to 4,096. Kind 3: clock step, 2."
+abbrev pub eventLength : ℕ → ℕ → Bool
+eventLength kind size =
+    pick (eqb kind 1) (eqb size 9) (pick (eqb kind 2) (leb size 4096) (eqb kind 3 && eqb size 2))
+
+unfoldable pub lengthAllowed : Bool → ℕ → ℕ → Bool
+lengthAllowed first kind size = pick first (eqb kind 0 && eqb size 12) (eventLength kind size)
+
+-- "role, own address, RSNA 0/1, two timeouts"
+unfoldable pub settingsAt : List ℕ → Settings
+settingsAt xs =
+    record {
+      own = field 6 6 xs;
+      authentication = field 2 13 xs;
+      association = field 2 15 xs;
+      role = field 1 5 xs;
+      rsna = field 1 12 xs;
+    }
+
+-- "primitive, address, code"; a frame; a clock step
+unfoldable pub eventAt : List ℕ → ℕ → Event
+eventAt xs kind =
+    pick (eqb kind 1) (Ask (field 1 5 xs) (field 6 6 xs) (field 2 12 xs)) (pick (eqb kind 2) Frame (Clock (field 2 5 xs)))
+
+-- What stands at the front of the input. "A fault in mark, kind or length, or a cut record"
+unfoldable pub takenOf : List ℕ → Bool → Taken
+takenOf xs first =
+    pick (ltb (length xs) 5) Cut
+    (pick (not (marked xs)) Fault
+    (pick (not (lengthAllowed first (field 1 2 xs) (field 2 3 xs))) Fault
+    (pick (ltb (length xs - 5) (field 2 3 xs)) Cut
+    (pick first (First (settingsAt xs)) (Next (eventAt xs (field 1 2 xs)))))))

@@ -1,0 +1,104 @@
+// The records of a bench input: mark 0B 03, kind, length, body; numbers little-endian.
+use octets::field::address_at;
+use octets::field::octet_at;
+use octets::field::u16_at;
+use peer::settings::Settings;
+use table::step::Event;
+ghost use mathlib.Core.Path.{_≡_};
+ghost use Prim.Native.Nat.{_+_};
+ghost use Rattle.octets.specs.Field.{field};
+ghost use Rattle.bench.specs.Input.{marked, lengthAllowed, settingsAt, eventAt, takenOf};
+
+// What stands at the front of the input.
+pub enum Taken {
+    // A record that is not there whole.
+    Cut,
+    // A fault in mark, kind or length.
+    Fault,
+    // The settings, which stand first and only there.
+    First(Settings),
+    // An event; a frame's octets are the record's body.
+    Next(Event),
+}
+
+fn is_marked(s: &[u8]) -> bool
+    ensures { λ r. ⌜ r ≡ marked (now (s .entry)) ⌝ }
+{
+    u16_at(s, 0) == 0x030B
+}
+
+// Whether a record of a kind may have a length, and stand where it stands.
+fn length_allowed(first: bool, kind: u8, size: u16) -> bool
+    ensures { λ r. ⌜ r ≡ lengthAllowed first kind size ⌝ }
+{
+    if first {
+        if kind == 0 { size == 12 } else { false }
+    } else {
+        match kind {
+            1 => size == 9,
+            2 => size <= 4096,
+            3 => size == 2,
+            _ => false,
+        }
+    }
+}
+
+// The settings of a record of 12 octets: role, own address, RSNA, two timeouts.
+fn settings_at(s: &[u8]) -> Settings
+    ensures { λ r. ⌜ r ≡ settingsAt (now (s .entry)) ⌝ }
+{
+    Settings {
+        own: address_at(s, 6),
+        authentication: u16_at(s, 13),
+        association: u16_at(s, 15),
+        role: octet_at(s, 5),
+        rsna: octet_at(s, 12),
+    }
+}
+
+// The event of a record: primitive, address, code; or a frame; or a clock step.
+fn event_at(s: &[u8], kind: u8) -> Event
+    ensures { λ r. ⌜ r ≡ eventAt (now (s .entry)) kind ⌝ }
+{
+    match kind {
+        1 => Event::Ask {
+            primitive: octet_at(s, 5),
+            address: address_at(s, 6),
+            code: u16_at(s, 12),
+        },
+        2 => Event::Frame,
+        _ => Event::Clock(u16_at(s, 5)),
+    }
+}
+
+// What stands at the front of the input s; `first` before any record was taken.
+pub fn take(s: &[u8], first: bool) -> Taken
+    ensures { λ r. ⌜ r ≡ takenOf (now (s .entry)) first ⌝ }
+{
+    if s.len() < 5 {
+        return Taken::Cut;
+    }
+    if is_marked(s) {} else {
+        return Taken::Fault;
+    }
+    let kind = octet_at(s, 2);
+    let size = u16_at(s, 3);
+    if length_allowed(first, kind, size) {} else {
+        return Taken::Fault;
+    }
+    if s.len() - 5 < size as usize {
+        return Taken::Cut;
+    }
+    if first {
+        Taken::First(settings_at(s))
+    } else {
+        Taken::Next(event_at(s, kind))
+    }
+}
+
+// The octets of a record whose head is at the front of s.
+pub fn record_length(s: &[u8]) -> usize
+    ensures { λ r. ⌜ r ≡ field 2 3 (now (s .entry)) + 5 ⌝ }
+{
+    u16_at(s, 3) as usize + 5
+}

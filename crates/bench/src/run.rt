@@ -1,0 +1,231 @@
+// The run over standard input: the octets read, what was taken of them, and the lines not yet written.
+use crate::input::Taken;
+use crate::input::record_length;
+use crate::input::take;
+use crate::line::write_line;
+use crate::line::write_stop;
+use crate::play::play;
+use libc::STDIN_FILENO;
+use libc::STDOUT_FILENO;
+use peer::record::Record;
+use peer::settings::Settings;
+use table::step::Event;
+ghost use mathlib.Core.Path.{_≡_};
+ghost use Prim.Native.Nat.{_≤_};
+ghost use lib.ListN.{length};
+ghost use Rattle.bench.specs.Play.{numberAfter};
+
+// Where a run stands. Of the input buffer the octets from `at` to `have` are still to be taken; of the output buffer the first `out` are
+// lines still to be written.
+pub struct Run {
+    pub settings: Settings,
+    pub table: [Record; 32],
+    pub number: u64,
+    pub at: usize,
+    pub have: usize,
+    pub out: usize,
+    // No record was taken yet.
+    pub first: bool,
+    // The input came to its end.
+    pub over: bool,
+    pub done: bool,
+    pub trace: bool,
+}
+
+impl Run {
+    pub fn new(trace: bool) -> Run {
+        Run {
+            settings: Settings {
+                own: 0,
+                authentication: 0,
+                association: 0,
+                role: 0,
+                rsna: 0,
+            },
+            table: [Record::free(); 32],
+            number: 0,
+            at: 0,
+            have: 0,
+            out: 0,
+            first: true,
+            over: false,
+            done: false,
+            trace,
+        }
+    }
+}
+
+// Where the next line goes once n octets were written at `out`, in a buffer of `len`.
+fn behind(out: usize, n: usize, len: usize) -> usize
+    ensures { λ r. ⌜ (out ≤ len → r ≤ len) ⌝ }
+{
+    if len < out {
+        return len;
+    }
+    if len - out < n { len } else { out + n }
+}
+
+// Writes out the lines of the buffer.
+fn flush(output: &[u8], r: Run) -> Run {
+    let out = r.out;
+    let mut next = r;
+    next.out = 0;
+    if output.len() < out {
+        next.done = true;
+        return next;
+    }
+    let written = io::write_all(STDOUT_FILENO, &output[..out]);
+    if written {
+        return next;
+    }
+    next.done = true;
+    next
+}
+
+// Writes out the lines, and ends the run.
+fn finish(output: &[u8], r: Run) -> Run {
+    let mut next = flush(output, r);
+    next.done = true;
+    next
+}
+
+// Ends the run with the line `stop`.
+fn stop(output: &mut [u8], r: Run) -> Run {
+    let out = r.out;
+    if output.len() < out {
+        return finish(output, r);
+    }
+    let n = write_stop(&mut output[out..]);
+    let mut next = r;
+    next.out = behind(out, n, output.len());
+    finish(output, next)
+}
+
+// Moves the octets from `at` to `have` to the front of the buffer, and gives how many there are.
+fn shift(input: &mut [u8], at: usize, have: usize) -> usize
+    ensures { λ r. ⌜ r ≤ length (now (input .exit)) ⌝ }
+{
+    if input.len() < have {
+        return 0;
+    }
+    if have < at {
+        return 0;
+    }
+    let mut i = 0;
+    while i < have - at {
+        input[i] = input[at + i];
+        i += 1;
+    }
+    have - at
+}
+
+// Reads on behind what is left.
+fn refill(input: &mut [u8], output: &[u8], r: Run) -> Run {
+    let mut next = r;
+    let left = shift(input, r.at, r.have);
+    let got = libc::read(STDIN_FILENO, &mut input[left..]);
+    if got < 0 {
+        return finish(output, next);
+    }
+    let n = io::count(got, &input[left..]);
+    next.at = 0;
+    next.have = behind(left, n, input.len());
+    next.over = n == 0;
+    next
+}
+
+// A record that is not there whole: more is read, unless the input came to its end.
+fn cut(input: &mut [u8], output: &mut [u8], r: Run) -> Run {
+    if r.over {
+        if r.at == r.have {
+            finish(output, r)
+        } else {
+            stop(output, r)
+        }
+    } else {
+        refill(input, output, r)
+    }
+}
+
+// The settings record was taken.
+fn begin(r: Run, s: Settings) -> Run {
+    let mut next = r;
+    next.settings = s;
+    next.first = false;
+    next.at = behind(r.at, 17, r.have);
+    next
+}
+
+// The number of the next event.
+fn counted(n: u64) -> u64
+    ensures { λ r. ⌜ r ≡ numberAfter n ⌝ }
+{
+    if n == u64::MAX { n } else { n + 1 }
+}
+
+// An event was taken: it is played, and its line goes to the output. The record has `size` octets, its body is `frame`.
+fn event(output: &mut [u8], r: Run, e: Event, frame: &[u8], size: usize) -> Run {
+    let s = r.settings;
+    let t = r.table;
+    let p = play(s, t, e, frame);
+    let number = counted(r.number);
+    let answer = p.answer;
+    let table = p.table;
+    let out = r.out;
+    let mut next = r;
+    next.table = table;
+    next.number = number;
+    next.at = behind(r.at, size, r.have);
+    if output.len() < out {
+        next.done = true;
+        return next;
+    }
+    let n = write_line(&mut output[out..], number, answer);
+    next.out = behind(out, n, output.len());
+    next
+}
+
+// The body of a record whose head is at the front of s.
+fn body(s: &[u8]) -> &[u8] {
+    let size = record_length(s);
+    if size <= s.len() {
+        &s[5..size]
+    } else {
+        &s[..0]
+    }
+}
+
+// One record, or more input.
+pub fn turn(input: &mut [u8], output: &mut [u8], r: Run) -> Run {
+    let at = r.at;
+    let have = r.have;
+    if have < at {
+        return finish(output, r);
+    }
+    if input.len() < have {
+        return finish(output, r);
+    }
+    let t = take(&input[at..have], r.first);
+    match t {
+        Taken::Fault => stop(output, r),
+        Taken::Cut => cut(input, output, r),
+        Taken::First(s) => begin(r, s),
+        Taken::Next(e) => {
+            let s = &input[at..have];
+            event(output, r, e, body(s), record_length(s))
+        }
+    }
+}
+
+// The same, and the lines are written out where little room is left.
+pub fn round(input: &mut [u8], output: &mut [u8], r: Run) -> Run {
+    let next = turn(input, output, r);
+    if output.len() < 8192 {
+        return flush(output, next);
+    }
+    if output.len() - 8192 < next.out {
+        flush(output, next)
+    } else {
+        next
+    }
+}

@@ -1,0 +1,49 @@
+-- 01, "Either side of each line": "The marked cases are a single table under one proved statement about the rules".
+-- The statement, computed from the definitions of all three crates.
+-- Assumes nothing.
+use mathlib.Core.Path.{_≡_, refl}
+use mathlib.Core.Bool.{true}
+use Rattle.octets.specs.Address.{validOf, groupOf}
+use Rattle.octets.specs.Field.{octets}
+use Rattle.octets.specs.Class.{classOf}
+use Rattle.octets.specs.Element.{walk}
+use Rattle.octets.specs.Heard.{authenticationOf, responseOf, heardOf}
+use Rattle.octets.specs.Shape.{leastManagement, isBare, leastOf, shapeOf}
+use Rattle.octets.specs.Frame.{capabilityOf, aidField, headOf, bodyOf, bytesOf, writtenOf, lengthOf}
+use Rattle.peer.specs.Settings.{settingsFit}
+use Rattle.peer.specs.Record.{isJoined, associates, freshOf, isFree, changedOf}
+use Rattle.peer.specs.Fit.{stands, askedFits, awaitingFits, sentFits, holdFits, recordFits, placeFits}
+use Rattle.peer.specs.Moves.{dsOf}
+use Rattle.peer.specs.Reply.{apAddress, sendOf, authenticationTo, disassociationTo, requestTo, responseTo}
+use Rattle.peer.specs.Turn.{turnOf, endedOf, begunOf, repliedOf, stillOf}
+use Rattle.peer.specs.Filter.{barredOf}
+use Rattle.peer.specs.Authentication.{requestedOf, authenticationAtAp, answeredMove, authenticationAtStation, authenticationHeard}
+use Rattle.peer.specs.Farewell.{deauthenticationHeard}
+use Rattle.peer.specs.Association.{requestHeard, rejectedOf, responseHeard}
+use Rattle.peer.specs.Hear.{hearOf}
+use Rattle.peer.specs.Refuse.{codeAllowed, roleAllowed, joinConflict, conflictOf, joinedElsewhere, mismatchOf, heldOf}
+use Rattle.peer.specs.Ask.{startedOf, answerOf, associateOf, awaitedOf, respondOf, reportedMove, reportOf, askOf}
+use Rattle.peer.specs.Tick.{timedOf, freedOf, tickOf}
+use Rattle.table.specs.Places.{allOf, firstFrom, allTails, countOf}
+use Rattle.table.specs.Fit.{aloneIn, crowdOf, sparseOf, wellFormed}
+use Rattle.table.specs.Others.{associatedOf, othersOf}
+use Rattle.table.specs.Answer.{settledOf, refusedOf, steppedOf}
+use Rattle.table.specs.Seat.{seatedOf, startsOf, newcomerOf}
+use Rattle.table.specs.Refusals.{firstOf, unless}
+use Rattle.table.specs.Read.{forUs, readFrom, readFull, readOf}
+use Rattle.table.specs.Receive.{heardFrom, receivedOf}
+use Rattle.table.specs.Ask.{mayAsk, noPlace, askedAt, askedOf}
+use Rattle.table.specs.Pass.{reportFor, reportsOf, clockedOf, passedOf, passedIn}
+use Rattle.table.specs.Marked.{same, answerFields, recordFields, sameTable, zerosAfter, tableOf, lineComesOut, linesComeOut, comesOut, marked}
+
+pub marked-cases : allOf comesOut marked ≡ true
+unfolding validOf groupOf octets classOf walk authenticationOf responseOf heardOf leastManagement isBare leastOf shapeOf capabilityOf
+    aidField headOf bodyOf bytesOf writtenOf lengthOf settingsFit isJoined associates freshOf isFree changedOf stands askedFits awaitingFits
+    sentFits holdFits recordFits placeFits dsOf apAddress sendOf authenticationTo disassociationTo requestTo responseTo turnOf endedOf
+    begunOf repliedOf stillOf barredOf requestedOf authenticationAtAp answeredMove authenticationAtStation authenticationHeard
+    deauthenticationHeard requestHeard rejectedOf responseHeard hearOf codeAllowed roleAllowed joinConflict conflictOf joinedElsewhere
+    mismatchOf heldOf startedOf answerOf associateOf awaitedOf respondOf reportedMove reportOf askOf timedOf freedOf tickOf firstFrom
+    allTails countOf aloneIn crowdOf sparseOf wellFormed associatedOf othersOf settledOf refusedOf steppedOf seatedOf startsOf newcomerOf
+    firstOf unless forUs readFrom readFull readOf heardFrom receivedOf mayAsk noPlace askedAt askedOf reportFor reportsOf clockedOf passedOf
+    passedIn same answerFields recordFields sameTable zerosAfter tableOf lineComesOut linesComeOut comesOut marked
+marked-cases = refl
