@@ -18,6 +18,10 @@ capabilityOf rsna = pick (eqb rsna 1) 0x0011 0x0001
 abbrev pub listenInterval : ℕ
 listenInterval = 10
 
+-- The octets of the longest frame written, a reassociation request: "output buffer under 34 bytes"
+abbrev pub longest : ℕ
+longest = 34
+
 -- AID with its two top bits set (for AID 0 all bits clear)
 unfoldable pub aidField : ℕ → ℕ
 aidField aid = pick (eqb aid 0) 0 (aid % 16384 + 49152)
@@ -44,9 +48,10 @@ bodyOf (Reason reason) = octets 2 reason
 unfoldable pub bytesOf : Frame → List ℕ
 bytesOf f = headOf f ++ bodyOf (f .body)
 
--- What writing a frame into a buffer leaves there, and the number that it gives. A buffer under 34 octets is not written.
+-- What writing a frame into a buffer leaves there, and the number that it gives. A buffer too short for
+-- the longest frame is not written.
 unfoldable pub writtenOf : Frame → List ℕ → List ℕ
-writtenOf f l = pick (ltb (length l) 34) l (bytesOf f ++ drop (length (bytesOf f)) l)
+writtenOf f l = pick (ltb (length l) longest) l (bytesOf f ++ drop (length (bytesOf f)) l)
 
 unfoldable pub lengthOf : Frame → ℕ → ℕ
-lengthOf f n = pick (ltb n 34) 0 (length (bytesOf f))
+lengthOf f n = pick (ltb n longest) 0 (length (bytesOf f))

@@ -108,7 +108,7 @@ pub fn class(frame: &[u8]) -> FrameClass
     }
 }
 
-// Whether a frame without a class is meant.
+// Whether a frame has no class.
 pub fn is_none(k: FrameClass) -> bool
     ensures { λ r. ⌜ r ≡ classless k ⌝ }
 {

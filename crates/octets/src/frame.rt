@@ -55,6 +55,9 @@ impl Frame {
     pub const DEAUTHENTICATION: u8 = 12;
 
     pub const LISTEN_INTERVAL: u16 = 10;
+
+    // The octets of the longest frame written: the room that every event but a clock step is lent.
+    pub const LONGEST: usize = 34;
 }
 
 // The capability field: ESS, and privacy where RSNA is required.
@@ -129,12 +132,12 @@ fn put_body(out: &mut [u8], b: Body) -> u16
     }
 }
 
-// Writes a frame at the front of the buffer and gives its length. A buffer under 34 octets, the longest frame's length,
-// stays as it was, and the answer is 0.
+// Writes a frame at the front of the buffer and gives its length. A buffer too short for the longest frame stays as it was,
+// and the answer is 0.
 pub fn write(out: &mut [u8], f: Frame) -> u16
     ensures { λ r. ⌜ (r ≡ lengthOf f (length (now (out .entry)))) × (now (out .exit) ≡ writtenOf f (now (out .entry))) ⌝ }
 {
-    if out.len() < 34 {
+    if out.len() < Frame::LONGEST {
         return 0;
     }
     put_head(out, f);

@@ -6,6 +6,7 @@ use lib.Dec.{eqb, ltb}
 use Rattle.octets.specs.Pick.{pick}
 use Rattle.octets.specs.declared.heard.Kind.the-variants.{Association, Authentication, Reassociation}
 use Rattle.octets.specs.declared.heard.Kind.{Kind}
+use Rattle.peer.specs.Codes.{deauthenticationConfirm, disassociationConfirm, statusRefused}
 use Rattle.peer.specs.Authentication.{answeredMove}
 use Rattle.peer.specs.Moves.{movedOf}
 use Rattle.peer.specs.Record.{changedOf}
@@ -38,12 +39,12 @@ answerOf s p status =
 -- 3. "frame only from State 2-4; State 1, exchange ends, confirm always"; "carries the code given"
 unfoldable pub deauthenticateOf : Settings → Record → ℕ → Turn
 deauthenticateOf s p reason =
-    turnOf s p (endedOf s p move.Deauthenticate (p .hold)) none (toldOf 4 reason)
+    turnOf s p (endedOf s p move.Deauthenticate (p .hold)) none (toldOf deauthenticationConfirm reason)
     (pick (ltb (p .state) 2) Silent (deauthenticationTo s (p .address) reason))
 
 -- "confirm status 1"
 unfoldable pub failedOf : Settings → Record → Kind → Turn
-failedOf s p k = turnOf s p p none (toldOf (confirmOf k) 1) Silent
+failedOf s p k = turnOf s p p none (toldOf (confirmOf k) statusRefused) Silent
 
 -- 4. "State 1: confirm status 1; else frame"
 unfoldable pub associateOf : Settings → Record → Turn
@@ -60,8 +61,8 @@ reassociateOf s p o =
 unfoldable pub disassociateOf : Settings → Record → ℕ → Turn
 disassociateOf s p reason =
     pick (ltb (p .state) 3)
-    (turnOf s p p none (toldOf 10 reason) Silent)
-    (turnOf s p (endedOf s p move.Drop (p .hold)) none (toldOf 10 reason) (disassociationTo s (p .address) reason))
+    (turnOf s p p none (toldOf disassociationConfirm reason) Silent)
+    (turnOf s p (endedOf s p move.Drop (p .hold)) none (toldOf disassociationConfirm reason) (disassociationTo s (p .address) reason))
 
 -- 7, 8. "status 0: frame with AID, awaits acknowledgement, state kept"
 unfoldable pub awaitedOf : Settings → Record → Kind → ℕ → Turn
@@ -100,4 +101,5 @@ askOf s aid p o q code =
     (pick (eqb q 7) (respondOf s aid p Association code)
     (pick (eqb q 8) (respondOf s aid p Reassociation code)
     (pick (eqb q 9) (secureOf s p)
+    -- 10: another number is refused 3 before.
     (reportOf s p code)))))))))

@@ -7,9 +7,10 @@ use Rattle.octets.specs.Pick.{pick}
 use Rattle.octets.specs.declared.element.Comeback.the-variants.{Absent, Given}
 use Rattle.octets.specs.declared.element.Comeback.{Comeback}
 use Rattle.octets.specs.declared.heard.Kind.{Kind}
+use Rattle.peer.specs.Codes.{lastAid}
 use Rattle.peer.specs.Authentication.{requestedOf}
 use Rattle.peer.specs.Moves.{movedOf}
-use Rattle.peer.specs.Record.{changedOf, houseHold, kindOf, sentOf}
+use Rattle.peer.specs.Record.{changedOf, defaultHold, kindOf, sentOf}
 use Rattle.peer.specs.Settings.{ap}
 use Rattle.peer.specs.Turn.{admit, confirmOf, endedOf, soleOf, stillOf, toldOf, turnOf}
 use Rattle.peer.specs.declared.moves.Move.the-variants as move
@@ -25,13 +26,13 @@ requestHeard s p k current = pick (eqb (s .role) ap) (requestedOf s p k current)
 -- "hold set: the first element .. gives its 4-octet value in TU; without one, 1,954 for any status (house)". "A comeback of 0 is a hold of 0."
 abbrev pub comebackHold : Comeback → ℕ
 comebackHold (Given tu) = tu
-comebackHold Absent = houseHold
+comebackHold Absent = defaultHold
 
 -- "status 0 with AID (low 14 bits) outside 1-2007 does nothing. Else the exchange ends, confirm with the status. Status 0: State 3 if RSNA is
 -- required, else 4; any other record in State 3 or 4 goes to State 2."
 unfoldable pub acceptedOf : Settings → Record → Kind → ℕ → Turn
 acceptedOf s p k aid =
-    pick (eqb aid 0 || ltb 2007 aid)
+    pick (eqb aid 0 || ltb lastAid aid)
     (stillOf s p admit)
     (soleOf (turnOf s p (endedOf s p move.Join (p .hold)) admit (toldOf (confirmOf k) 0) Silent))
 

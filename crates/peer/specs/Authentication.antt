@@ -6,6 +6,7 @@ use lib.Dec.{eqb}
 use Rattle.octets.specs.Pick.{pick}
 use Rattle.octets.specs.declared.heard.Kind.the-variants as kind
 use Rattle.octets.specs.declared.heard.Kind.{Kind}
+use Rattle.peer.specs.Codes.{authenticationConfirm, statusAlgorithm, statusFull}
 use Rattle.peer.specs.Record.{sentOf}
 use Rattle.peer.specs.Reply.{authenticationTo}
 use Rattle.peer.specs.Settings.{ap}
@@ -30,12 +31,12 @@ authenticationAtAp s p algorithm transaction =
     pick (eqb transaction 1)
     (pick (eqb algorithm 0)
     (requestedOf s p kind.Authentication 0)
-    (repliedOf s p admit (authenticationTo s (p .address) algorithm 2 13)))
+    (repliedOf s p admit (authenticationTo s (p .address) algorithm 2 statusAlgorithm)))
     (stillOf s p admit)
 
 -- "no record and no free place, reply status 17"
 unfoldable pub fullOf : Settings → Record → Turn
-fullOf s p = repliedOf s p admit (authenticationTo s (p .address) 0 2 17)
+fullOf s p = repliedOf s p admit (authenticationTo s (p .address) 0 2 statusFull)
 
 -- "status 0 moves State 1 to 2 and leaves others; another status leaves the state"
 unfoldable pub answeredMove : ℕ → Move
@@ -45,7 +46,7 @@ answeredMove status = pick (eqb status 0) move.Authenticate move.Keep
 unfoldable pub authenticationAtStation : Settings → Record → ℕ → ℕ → ℕ → Turn
 authenticationAtStation s p algorithm transaction status =
     pick (eqb algorithm 0 && (eqb transaction 2 && eqb (sentOf (p .exchange)) 1))
-    (turnOf s p (endedOf s p (answeredMove status) (p .hold)) admit (toldOf 2 status) Silent)
+    (turnOf s p (endedOf s p (answeredMove status) (p .hold)) admit (toldOf authenticationConfirm status) Silent)
     (stillOf s p admit)
 
 unfoldable pub authenticationHeard : Settings → Record → ℕ → ℕ → ℕ → Turn

@@ -9,6 +9,7 @@ use Rattle.octets.specs.declared.class.FrameClass.{FrameClass}
 use Rattle.octets.specs.declared.heard.Heard.the-variants as heard
 use Rattle.octets.specs.declared.heard.Heard.{Heard}
 use Rattle.octets.specs.declared.heard.Kind.{Kind}
+use Rattle.peer.specs.Codes.{reasonClass2, reasonClass3, statusRefused}
 use Rattle.peer.specs.Reply.{deauthenticationTo, disassociationTo, responseTo}
 use Rattle.peer.specs.Settings.{ap}
 use Rattle.peer.specs.declared.record.Record.{Record}
@@ -27,14 +28,14 @@ passesOf class.Three state = leb 3 state
 abbrev pub filteredOf : Settings → Record → FrameClass → Reply
 filteredOf s p class.None = Silent
 filteredOf s p class.One = Silent
-filteredOf s p class.Two = deauthenticationTo s (p .address) 6
+filteredOf s p class.Two = deauthenticationTo s (p .address) reasonClass2
 filteredOf s p class.Three =
-    pick (eqb (p .state) 1) (deauthenticationTo s (p .address) 7) (disassociationTo s (p .address) 7)
+    pick (eqb (p .state) 1) (deauthenticationTo s (p .address) reasonClass3) (disassociationTo s (p .address) reasonClass3)
 
 -- "Exception (000): an AP replies to an individually addressed (re)association request in State 1 with the matching response, status 1,
 -- AID 0". (Of class 2, it is kept out in State 1 only.)
 unfoldable pub requestBarred : Settings → Record → FrameClass → Kind → Reply
-requestBarred s p k kind = pick (eqb (s .role) ap) (responseTo s (p .address) kind 1 0) (filteredOf s p k)
+requestBarred s p k kind = pick (eqb (s .role) ap) (responseTo s (p .address) kind statusRefused 0) (filteredOf s p k)
 
 abbrev pub barredBy : Settings → Record → FrameClass → Heard → Reply
 barredBy s p k heard.Other = filteredOf s p k

@@ -1,4 +1,5 @@
 pub mod Settings
+pub mod Codes
 pub mod Record
 pub mod Fit
 pub mod Moves

@@ -12,7 +12,9 @@ abbrev pub movedOf : ℕ → ℕ → Move → ℕ
 movedOf rsna state Keep = state
 -- "status 0 moves State 1 to 2, others kept"
 movedOf rsna state Authenticate = pick (eqb state 1) 2 state
+-- "Deauthentication in State 2-4: State 1"
 movedOf rsna state Deauthenticate = 1
+-- "Disassociation ..: State 2"; "Other status: State 2"; "any other record in State 3 or 4 goes to State 2"; "the others set State 2"
 movedOf rsna state Drop = 2
 -- "State 3 if RSNA required, else 4"
 movedOf rsna state Join = pick (eqb rsna 1) 3 4

@@ -69,5 +69,5 @@ unfoldable pub changedOf : Record → ℕ → Exchange → ℕ → ℕ → Recor
 changedOf p state e left hold = record { address = p .address; state = state; exchange = e; left = left; hold = hold }
 
 -- "2 s is 1,953.125 TU." In whole TU, rounded up.
-abbrev pub houseHold : ℕ
-houseHold = 1954
+abbrev pub defaultHold : ℕ
+defaultHold = 1954

@@ -9,7 +9,7 @@ use Rattle.peer.specs.Settings.{ap, station}
 use Rattle.peer.specs.declared.record.Record.{Record}
 use Rattle.peer.specs.declared.refuse.Others.{Others}
 
--- Which of several numbers a number is.
+-- Whether a number is one of two.
 abbrev pub one : ℕ → ℕ → ℕ → Bool
 one q a b = eqb q a || eqb q b
 

@@ -1,5 +1,6 @@
 // What a primitive from our own side does at one peer, where nothing refuses it.
 use crate::authentication::answered_move;
+use crate::codes::STATUS_REFUSED;
 use crate::moves::Move;
 use crate::moves::moved;
 use crate::record::Exchange;
@@ -73,7 +74,14 @@ fn deauthenticate(s: Settings, p: Record, reason: u16) -> Turn
 fn failed(s: Settings, p: Record, k: Kind) -> Turn
     ensures { λ r. ⌜ r ≡ failedOf s p k ⌝ }
 {
-    Turn::of(s, p, p, Turn::NONE, Told::of(confirm(k), 1), Reply::Silent)
+    Turn::of(
+        s,
+        p,
+        p,
+        Turn::NONE,
+        Told::of(confirm(k), STATUS_REFUSED),
+        Reply::Silent,
+    )
 }
 
 // 4, ASSOCIATE.request.
@@ -198,6 +206,7 @@ pub fn ask(s: Settings, aid: u16, p: Record, o: Others, primitive: u8, code: u16
         7 => respond(s, aid, p, Kind::Association, code),
         8 => respond(s, aid, p, Kind::Reassociation, code),
         9 => secure(s, p),
+        // 10: another number was refused before.
         _ => report(s, p, code),
     }
 }

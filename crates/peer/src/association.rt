@@ -1,5 +1,6 @@
 // (Re)association: the request heard at an AP, the response heard at a station.
 use crate::authentication::requested;
+use crate::codes::LAST_AID;
 use crate::moves::Move;
 use crate::moves::moved;
 use crate::record::Record;
@@ -44,7 +45,7 @@ fn accepted(s: Settings, p: Record, kind: Kind, aid: u16) -> Turn
     if aid == 0 {
         return still(s, p, Turn::ADMIT);
     }
-    if 2007 < aid {
+    if LAST_AID < aid {
         return still(s, p, Turn::ADMIT);
     }
     let notice = confirm(kind);

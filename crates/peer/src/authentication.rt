@@ -1,4 +1,6 @@
 // Authentication, heard at an AP and at a station.
+use crate::codes::STATUS_ALGORITHM;
+use crate::codes::STATUS_FULL;
 use crate::moves::Move;
 use crate::record::Exchange;
 use crate::record::Record;
@@ -59,7 +61,7 @@ fn authentication_at_ap(s: Settings, p: Record, algorithm: u16, transaction: u16
             s,
             p,
             Turn::ADMIT,
-            authentication(s, p.address, algorithm, 2, 13),
+            authentication(s, p.address, algorithm, 2, STATUS_ALGORITHM),
         );
     }
     requested(s, p, Kind::Authentication, 0)
@@ -69,7 +71,12 @@ fn authentication_at_ap(s: Settings, p: Record, algorithm: u16, transaction: u16
 pub fn full(s: Settings, p: Record) -> Turn
     ensures { λ r. ⌜ r ≡ fullOf s p ⌝ }
 {
-    replied(s, p, Turn::ADMIT, authentication(s, p.address, 0, 2, 17))
+    replied(
+        s,
+        p,
+        Turn::ADMIT,
+        authentication(s, p.address, 0, 2, STATUS_FULL),
+    )
 }
 
 fn authentication_at_station(

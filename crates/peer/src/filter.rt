@@ -1,4 +1,7 @@
 // The class filter: which frames pass in which state, and what is said to those that do not.
+use crate::codes::REASON_CLASS_2;
+use crate::codes::REASON_CLASS_3;
+use crate::codes::STATUS_REFUSED;
 use crate::record::Record;
 use crate::reply::Reply;
 use crate::reply::deauthentication;
@@ -30,12 +33,12 @@ fn filtered(s: Settings, p: Record, class: FrameClass) -> Reply
     match class {
         FrameClass::None => Reply::Silent,
         FrameClass::One => Reply::Silent,
-        FrameClass::Two => deauthentication(s, p.address, 6),
+        FrameClass::Two => deauthentication(s, p.address, REASON_CLASS_2),
         FrameClass::Three => {
             if p.state == Record::STATE_1 {
-                deauthentication(s, p.address, 7)
+                deauthentication(s, p.address, REASON_CLASS_3)
             } else {
-                disassociation(s, p.address, 7)
+                disassociation(s, p.address, REASON_CLASS_3)
             }
         }
     }
@@ -46,7 +49,7 @@ fn request_barred(s: Settings, p: Record, class: FrameClass, kind: Kind) -> Repl
     ensures { λ r. ⌜ r ≡ requestBarred s p class kind ⌝ }
 {
     if s.role == Settings::AP {
-        response(s, p.address, kind, 1, 0)
+        response(s, p.address, kind, STATUS_REFUSED, 0)
     } else {
         filtered(s, p, class)
     }

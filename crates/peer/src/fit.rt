@@ -75,7 +75,7 @@ pub fn exchange_fits(e: Exchange, role: u8, state: u8, left: u16) -> bool
     }
 }
 
-// Whether a record that is no free place is well formed by itp.
+// Whether a record that is no free place is well formed by itself.
 fn record_fits(s: Settings, p: Record) -> bool
     ensures { λ r. ⌜ r ≡ recordFits s p ⌝ }
 {
@@ -100,7 +100,7 @@ fn record_fits(s: Settings, p: Record) -> bool
     exchange_fits(e, s.role, state, p.left)
 }
 
-// Whether a place is free or its record well formed by itp.
+// Whether a place is free or its record well formed by itself.
 pub fn place_fits(s: Settings, p: Record) -> bool
     ensures { λ r. ⌜ r ≡ placeFits s p ⌝ }
 {

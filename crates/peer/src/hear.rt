@@ -30,7 +30,7 @@ fn is_exchange(h: Heard) -> bool
     }
 }
 
-// What is heard of a peer, and passed the filter and the group rule, does.
+// What a frame does that passed the filter and the group rule.
 fn act(s: Settings, p: Record, h: Heard) -> Turn
     ensures { λ r. ⌜ r ≡ actOf s p h ⌝ }
 {

@@ -1,7 +1,9 @@
-// One peer: settings, a record, and what one frame, primitive or clock step makes of it. It sees no octets and no other record.
+// One peer: settings, a record, and what one frame, primitive or clock step makes of it. It sees no octets; of other
+// records it is told what it needs.
 pub mod ask;
 pub mod association;
 pub mod authentication;
+pub mod codes;
 pub mod farewell;
 pub mod filter;
 pub mod fit;

@@ -7,7 +7,7 @@ use crate::settings::Settings;
 ghost use mathlib.Core.Path.{_≡_};
 ghost use Rattle.peer.specs.Refuse.{codeAllowed, conflictOf, heldOf, joinConflict, joinedElsewhere, mismatchOf, roleAllowed};
 
-// What a station knows of its other records: the address of the one in State 3 or 4, or 0; whether any (re)association is under way.
+// What a station knows of its whole table: the address of the one in State 3 or 4, or 0; whether any (re)association is under way.
 pub struct Others {
     pub associated: u64,
     pub busy: bool,

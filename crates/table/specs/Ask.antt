@@ -5,6 +5,7 @@ use mathlib.Core.Bool.{Bool, true, false, not, _&&_, _||_}
 use mathlib.Core.List.{List, [], _∷_, _++_}
 use lib.Dec.{ltb, eqb}
 use Rattle.octets.specs.Address.{validOf}
+use Rattle.octets.specs.Frame.{longest}
 use Rattle.peer.specs.Refuse.{codeAllowed, roleAllowed, conflictOf, mismatchOf, heldOf}
 use Rattle.peer.specs.Ask.{askOf}
 use Rattle.peer.specs.declared.settings.Settings.{Settings}
@@ -48,5 +49,5 @@ askedAt s t ads q a c =
 -- A primitive, lent a buffer of n octets.
 unfoldable pub askedOf : Settings → List Record → ℕ → ℕ → ℕ → ℕ → Met
 askedOf s t q a c n =
-    unless (firstOf ((1, ltb n 34) ∷ (2, not (wellFormed s t)) ∷ [])) t
+    unless (firstOf ((1, ltb n longest) ∷ (2, not (wellFormed s t)) ∷ [])) t
     (askedAt s t (addressesOf t) q a c)

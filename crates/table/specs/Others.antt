@@ -1,4 +1,4 @@
--- What a station's primitives ask of the other records: which is in State 3 or 4, and whether any has a (re)association.
+-- What a station's primitives ask of the whole table: which record is in State 3 or 4, and whether any has a (re)association.
 -- Assumes nothing.
 use Prim.Native.Nat.{ℕ}
 use mathlib.Core.Bool.{Bool, false}

@@ -1,4 +1,4 @@
--- 01, A received frame, 1 to 5: what is settled before the table is looked at.
+-- 01, A received frame, 1 to 5: what is settled before a record is looked up.
 -- Assumes nothing.
 use Prim.Native.Nat.{ℕ}
 use mathlib.Core.Bool.{Bool, not, _||_}

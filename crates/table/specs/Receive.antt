@@ -5,6 +5,7 @@ use mathlib.Core.Bool.{Bool, not}
 use mathlib.Core.List.{List}
 use lib.Dec.{ltb}
 use Rattle.octets.specs.Pick.{pick}
+use Rattle.octets.specs.Frame.{longest}
 use Rattle.octets.specs.declared.class.FrameClass.{FrameClass}
 use Rattle.octets.specs.declared.heard.Heard.{Heard}
 use Rattle.peer.specs.Turn.{admit, discard}
@@ -37,6 +38,6 @@ heardAt s t ads (From peer group k h) = heardFrom s t ads peer group k h
 -- A frame xs, lent a buffer of n octets. 1. "Refusals 1, 2", then as it reads.
 unfoldable pub receivedOf : Settings → List Record → List ℕ → ℕ → Met
 receivedOf s t xs n =
-    pick (ltb n 34) (refusedOf t 1)
+    pick (ltb n longest) (refusedOf t 1)
     (pick (not (wellFormed s t)) (refusedOf t 2)
     (heardAt s t (addressesOf t) (readOf (s .own) xs)))

@@ -3,7 +3,7 @@ use peer::record::Record;
 use peer::reply::Reply;
 use peer::turn::Turn;
 ghost use mathlib.Core.Path.{_≡_};
-ghost use Rattle.table.specs.Answer.{refusalAnswer, verdictAnswer, turnAnswer, countAnswer, refusedOf, settledOf, steppedOf};
+ghost use Rattle.table.specs.Answer.{refusalAnswer, verdictAnswer, turnAnswer, countAnswer, refusedOf, settledOf};
 
 #[repr(C)]
 pub struct Answer {

@@ -10,6 +10,7 @@ use crate::seat::finish;
 use crate::seat::peer_at;
 use crate::seat::turn_in;
 use octets::address::valid;
+use octets::frame::Frame;
 use peer::record::Record;
 use peer::refuse::Others;
 use peer::refuse::code_allowed;
@@ -118,13 +119,14 @@ fn asked_at(
         return refused(t, n);
     }
     let turn = peer::ask::ask(s, aid(at), p, o, primitive, code);
+    // The other turn is not needed: without a free place refusal 6 came first.
     turn_in(t, at, free, turn, turn)
 }
 
 fn asked(s: Settings, t: [Record; 32], primitive: u8, address: u64, code: u16, room: usize) -> Met
     ensures { λ m. ⌜ m ≡ askedOf s t primitive address code room ⌝ }
 {
-    if room < 34 {
+    if room < Frame::LONGEST {
         return refused(t, 1);
     }
     let c = check(s, t);

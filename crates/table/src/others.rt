@@ -1,4 +1,4 @@
-// What a station's primitives ask of its other records. At an access point they are not looked at.
+// What a station's primitives ask of the whole table. At an access point it is not looked at.
 use crate::fit::crowd;
 use peer::record::Record;
 use peer::refuse::Others;

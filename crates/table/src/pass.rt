@@ -70,6 +70,7 @@ fn refusal(s: Settings, t: [Record; 32], d: u16, room: usize) -> u8
 pub fn pass(s: Settings, t: [Record; 32], d: u16, out: &mut [u8]) -> Stepped
     ensures { λ r. ⌜ (r ≡ passedOf s t d (length (now (out .entry)))) × (now (out .exit) ≡ passedIn s t d (now (out .entry))) ⌝ }
 {
+    // Tested here too, for `clock` is lent the buffer.
     if out.len() < 256 {
         return Stepped {
             table: t,

@@ -1,4 +1,4 @@
-// A received frame, read once: the steps that are settled before the table is looked at.
+// A received frame, read once: the steps that are settled before a record is looked up.
 use octets::address::group;
 use octets::address::valid;
 use octets::class::FrameClass;

@@ -12,6 +12,7 @@ use crate::seat::finish;
 use crate::seat::peer_at;
 use crate::seat::turn_in;
 use octets::class::FrameClass;
+use octets::frame::Frame;
 use octets::heard::Heard;
 use peer::authentication::full;
 use peer::hear::hear;
@@ -21,7 +22,6 @@ use peer::turn::Turn;
 ghost use mathlib.Core.Path.{_≡_};
 ghost use lib.ListN.{length};
 ghost use Rattle.table.specs.Answer.{saidIn, steppedOf};
-ghost use Rattle.table.specs.Places.{findOf};
 ghost use Rattle.table.specs.Receive.{heardFrom, heardAt, receivedOf};
 
 // A frame from a peer, in a well-formed table with these addresses.
@@ -63,7 +63,7 @@ fn heard_at(s: Settings, t: [Record; 32], addresses: &[u64], r: Reading) -> Met
 fn received(s: Settings, t: [Record; 32], frame: &[u8], room: usize) -> Met
     ensures { λ m. ⌜ m ≡ receivedOf s t (now (frame .entry)) room ⌝ }
 {
-    if room < 34 {
+    if room < Frame::LONGEST {
         return refused(t, 1);
     }
     let c = check(s, t);

@@ -2,7 +2,6 @@
 use crate::answer::Answer;
 use crate::answer::Met;
 use crate::answer::Stepped;
-use crate::answer::refused;
 use crate::places::Found;
 use crate::places::look;
 use crate::places::part_all;
@@ -15,7 +14,7 @@ use peer::turn::Turn;
 ghost use mathlib.Core.Path.{_≡_};
 ghost use lib.ListN.{length};
 ghost use Rattle.table.specs.Answer.{saidLength, saidIn, steppedOf};
-ghost use Rattle.table.specs.Seat.{peerOf, aidOf, seatedOf, strangerOf, startsOf, newcomerOf, turnIn};
+ghost use Rattle.table.specs.Seat.{peerOf, seatedOf, strangerOf, startsOf, newcomerOf, turnIn};
 
 // The record of a peer, or a fresh one.
 pub fn peer_at(t: [Record; 32], at: Found, address: u64) -> Record

@@ -1,0 +1,40 @@
+-- The standard's status and reason codes that are sent, its highest AID, and the notices.
+-- Assumes nothing.
+use Prim.Native.Nat.{ℕ}
+
+-- status 1: unspecified failure; 13: algorithm not supported; 17: no room for another station
+abbrev pub statusRefused : ℕ
+statusRefused = 1
+
+abbrev pub statusAlgorithm : ℕ
+statusAlgorithm = 13
+
+abbrev pub statusFull : ℕ
+statusFull = 17
+
+-- reason 6: class 2 frame from a station that is not authenticated; 7: class 3 frame from one that is not associated
+abbrev pub reasonClass2 : ℕ
+reasonClass2 = 6
+
+abbrev pub reasonClass3 : ℕ
+reasonClass3 = 7
+
+-- "AID (low 14 bits) outside 1-2007"
+abbrev pub lastAid : ℕ
+lastAid = 2007
+
+-- "Notices: .. authentication 1, 2; deauthentication 3, 4; .. disassociation 9, 10."
+abbrev pub authenticationConfirm : ℕ
+authenticationConfirm = 2
+
+abbrev pub deauthenticationIndication : ℕ
+deauthenticationIndication = 3
+
+abbrev pub deauthenticationConfirm : ℕ
+deauthenticationConfirm = 4
+
+abbrev pub disassociationIndication : ℕ
+disassociationIndication = 9
+
+abbrev pub disassociationConfirm : ℕ
+disassociationConfirm = 10
