@@ -1,2 +1,4 @@
 pub mod Digits
 pub mod Lines
+pub mod Puts
+pub mod TraceLines

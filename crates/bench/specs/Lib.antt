@@ -2,3 +2,4 @@ pub mod Text
 pub mod Line
 pub mod Input
 pub mod Play
+pub mod Trace

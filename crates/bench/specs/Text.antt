@@ -17,3 +17,15 @@ fieldOf k n = tens k n ++ (32 ∷ [])
 -- A letter and a blank.
 abbrev pub letterOf : ℕ → List ℕ
 letterOf c = c ∷ 32 ∷ []
+
+-- A hexadecimal digit, in lower case.
+unfoldable pub glyphOf : ℕ → ℕ
+glyphOf d = pick (ltb d 10) (48 + d) (87 + d)
+
+-- An octet as two digits; octets, one behind the other.
+unfoldable pub hexOctet : ℕ → List ℕ
+hexOctet v = glyphOf (v / 16) ∷ glyphOf (v % 16) ∷ []
+
+unfoldable pub hexOf : List ℕ → List ℕ
+hexOf [] = []
+hexOf (v ∷ vs) = hexOctet v ++ hexOf vs

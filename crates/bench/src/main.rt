@@ -4,6 +4,7 @@ mod line;
 mod play;
 mod run;
 mod text;
+mod trace;
 
 use run::Run;
 use run::round;
@@ -23,6 +24,60 @@ fn run_all(trace: bool) {
     }
 }
 
+// What the arguments ask for.
+enum Mode {
+    Plain,
+    Trace,
+    Unknown,
+}
+
+// Whether a word is `trace`.
+fn is_trace(word: &[u8]) -> bool {
+    if word.len() != 5 {
+        return false;
+    }
+    if word[0] != b't' {
+        return false;
+    }
+    if word[1] != b'r' {
+        return false;
+    }
+    if word[2] != b'a' {
+        return false;
+    }
+    if word[3] != b'c' {
+        return false;
+    }
+    word[4] == b'e'
+}
+
+fn asked_mode() -> Mode {
+    let count = os::arg_count();
+    if count <= 1 {
+        return Mode::Plain;
+    }
+    if 2 < count {
+        return Mode::Unknown;
+    }
+    let mut word = [0u8; 64];
+    let n = os::arg(1, &mut word);
+    if is_trace(&word[..n]) {
+        Mode::Trace
+    } else {
+        Mode::Unknown
+    }
+}
+
 fn main() {
-    run_all(false);
+    let m = asked_mode();
+    match m {
+        Mode::Plain => run_all(false),
+        Mode::Trace => run_all(true),
+        Mode::Unknown => {
+            io::write_all(
+                libc::STDERR_FILENO,
+                b"bench: unknown argument: 'trace', or none, with the records on standard input\n",
+            );
+        }
+    }
 }

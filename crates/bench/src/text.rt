@@ -1,10 +1,11 @@
 // Text put into a buffer, one piece behind the other: octets, numbers in decimal and in hexadecimal.
 ghost use mathlib.Core.Path.{_≡_};
 ghost use mathlib.Core.List.{[], _∷_};
-ghost use Prim.Native.Nat.{_+_, _≤_, _<_};
+ghost use Prim.Native.Nat.{_+_, _*_, _≤_, _<_};
 ghost use lib.ListN.{length};
 ghost use Rattle.octets.specs.Stored.{Stored};
-ghost use Rattle.bench.specs.Text.{tens, fieldOf, letterOf};
+ghost use Rattle.octets.specs.Field.{octets};
+ghost use Rattle.bench.specs.Text.{tens, fieldOf, letterOf, glyphOf, hexOctet, hexOf};
 
 pub(crate) fn put_octet(out: &mut [u8], at: usize, v: u8)
     requires { ⌜ at + 1 ≤ length (now out) ⌝ }
@@ -48,4 +49,63 @@ pub(crate) fn put_letter(out: &mut [u8], at: usize, letter: u8) -> usize
     put_octet(out, at, letter);
     put_octet(out, at + 1, b' ');
     at + 2
+}
+
+// A word, octet by octet.
+pub(crate) fn put_word(out: &mut [u8], at: usize, word: &[u8]) -> usize
+    requires { ⌜ at + length (now word) ≤ length (now out) ⌝ }
+    ensures { λ r. ⌜ (r ≡ at + length (now (word .entry))) × (Stored (now (out .entry)) at (now (word .entry)) (now (out .exit))) ⌝ }
+{
+    let mut i = 0;
+    while i < word.len() {
+        out[at + i] = word[i];
+        i += 1;
+    }
+    at + i
+}
+
+// A hexadecimal digit.
+fn glyph(d: u8) -> u8
+    requires { ⌜ d < 16 ⌝ }
+    ensures { λ r. ⌜ r ≡ glyphOf d ⌝ }
+{
+    if d < 10 { 48 + d } else { 87 + d }
+}
+
+// An octet as two hexadecimal digits.
+pub(crate) fn put_hex_octet(out: &mut [u8], at: usize, v: u8)
+    requires { ⌜ at + 2 ≤ length (now out) ⌝ }
+    ensures { λ _. ⌜ Stored (now (out .entry)) at (hexOctet v) (now (out .exit)) ⌝ }
+{
+    put_octet(out, at, glyph(v / 16));
+    put_octet(out, at + 1, glyph(v % 16));
+}
+
+// Octets in hexadecimal.
+pub(crate) fn put_hex(out: &mut [u8], at: usize, octets: &[u8]) -> usize
+    requires { ⌜ at + 2 * length (now octets) ≤ length (now out) ⌝ }
+    ensures { λ r. ⌜ (r ≡ at + 2 * length (now (octets .entry))) × (Stored (now (out .entry)) at (hexOf (now (octets .entry))) (now (out .exit))) ⌝ }
+{
+    let mut i = 0;
+    while i < octets.len() {
+        put_hex_octet(out, at + 2 * i, octets[i]);
+        i += 1;
+    }
+    at + 2 * i
+}
+
+// An address as its six octets in hexadecimal, the first octet first.
+pub(crate) fn put_hex_address(out: &mut [u8], at: usize, a: u64) -> usize
+    requires { ⌜ at + 12 ≤ length (now out) ⌝ }
+    ensures { λ r. ⌜ (r ≡ at + 12) × (Stored (now (out .entry)) at (hexOf (octets 6 a)) (now (out .exit))) ⌝ }
+{
+    let v = [
+        (a % 256) as u8,
+        (a / 256 % 256) as u8,
+        (a / 256 / 256 % 256) as u8,
+        (a / 256 / 256 / 256 % 256) as u8,
+        (a / 256 / 256 / 256 / 256 % 256) as u8,
+        (a / 256 / 256 / 256 / 256 / 256 % 256) as u8,
+    ];
+    put_hex(out, at, &v)
 }

@@ -1,6 +1,6 @@
 -- 01, Settings, table, clock: a peer's record.
 -- Assumes nothing.
-use Prim.Native.Nat.{ℕ}
+use Prim.Native.Nat.{ℕ, _+_}
 use mathlib.Core.Bool.{Bool, _&&_, false, true}
 use lib.Dec.{eqb, leb}
 use Rattle.octets.specs.declared.heard.Kind.the-variants.{Association, Authentication, Reassociation}
@@ -39,6 +39,13 @@ underWay None = 0
 underWay (Asked k) = kindOf k
 underWay (Awaiting k) = kindOf k
 underWay (Sent k) = kindOf k
+
+-- One number for an exchange, where a table is shown: 0 none, 1 to 3 asked, 4 to 6 awaiting acknowledgement, 7 to 9 sent.
+abbrev pub exchangeNumber : Exchange → ℕ
+exchangeNumber None = 0
+exchangeNumber (Asked k) = kindOf k
+exchangeNumber (Awaiting k) = 3 + kindOf k
+exchangeNumber (Sent k) = 6 + kindOf k
 
 abbrev pub isAssociating : Kind → Bool
 isAssociating Authentication = false

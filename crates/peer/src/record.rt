@@ -1,7 +1,7 @@
 // A peer's record: its address, its state, the exchange under way and the times left.
 use octets::heard::Kind;
 ghost use mathlib.Core.Path.{_≡_};
-ghost use Rattle.peer.specs.Record.{askedOf, associates, awaitingOf, changedOf, freeOf, freshOf, isAssociating, isFree, isJoined, kindOf, sentOf, underWay};
+ghost use Rattle.peer.specs.Record.{askedOf, associates, awaitingOf, changedOf, exchangeNumber, freeOf, freshOf, isAssociating, isFree, isJoined, kindOf, sentOf, underWay};
 
 // The exchange under way.
 pub enum Exchange {
@@ -79,6 +79,26 @@ pub fn under_way(e: Exchange) -> u8
         Exchange::Asked(k) => kind_number(k),
         Exchange::Awaiting(k) => kind_number(k),
         Exchange::Sent(k) => kind_number(k),
+    }
+}
+
+// The number of an exchange, as it is shown: 0 none, 1 to 3 asked, 4 to 6 awaiting acknowledgement, 7 to 9 sent, each by its kind.
+pub fn exchange_number(e: Exchange) -> u8
+    ensures { λ r. ⌜ r ≡ exchangeNumber e ⌝ }
+{
+    match e {
+        Exchange::None => 0,
+        Exchange::Asked(k) => kind_number(k),
+        Exchange::Awaiting(k) => match k {
+            Kind::Authentication => 4,
+            Kind::Association => 5,
+            Kind::Reassociation => 6,
+        },
+        Exchange::Sent(k) => match k {
+            Kind::Authentication => 7,
+            Kind::Association => 8,
+            Kind::Reassociation => 9,
+        },
     }
 }
 

@@ -1,3 +1,9 @@
 pub mod Loops
 pub mod Ticks
 pub mod MarkedCases
+pub mod Both
+pub mod Gives
+pub mod RefusedExactly
+pub mod RefusedKeeps
+pub mod WrittenCount
+pub mod Timeouts

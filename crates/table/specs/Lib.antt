@@ -10,3 +10,5 @@ pub mod Ask
 pub mod Pass
 pub mod Step
 pub mod Marked
+pub mod Exactly
+pub mod Written

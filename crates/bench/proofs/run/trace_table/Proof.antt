@@ -1,0 +1,62 @@
+-- `bench::run::trace_table` meets its contract: the buffer keeps its length, and every place is one of 32.
+-- Assumes nothing.
+use Prim.Native.Nat.{_-_, _≤_}
+use Rattle.octets.proofs.Table.{at}
+use borrow.Author.Needs.{needs}
+use lib.ListN.{length}
+use mathlib.Core.Path.{_≡_}
+use Rattle.bench.proofs.run.trace_table.Statement.{statement}
+use Rattle.bench.proofs.run.trace_table.Tie as tie
+
+abbrev Inv-loop : tie.InvT-loop
+Inv-loop output₀ out t at₀ i₀ output at i = (i ≤ 32) × (length t ≡ 32) × (length output ≡ length output₀)
+
+abbrev μ-loop : tie.MeasureT-loop
+μ-loop output₀ out t at₀ i₀ output at i = 32 - i
+
+loop-holds : tie.Need-loop-holds Inv-loop μ-loop
+loop-holds c = search needs
+
+mul-p : tie.Need-mul-p Inv-loop μ-loop
+mul-p c = search needs
+
+array-copy-out-p : tie.Need-array-copy-out-p Inv-loop μ-loop
+array-copy-out-p c = search needs
+
+cast-trace-place : tie.Need-cast-trace-place Inv-loop μ-loop
+cast-trace-place c = search needs
+
+trace-place-requires : tie.Need-trace-place-requires Inv-loop μ-loop
+trace-place-requires c κs = search needs
+
+add-i : tie.Need-add-i Inv-loop μ-loop
+add-i c = search needs
+
+loop-less : tie.Need-loop-less Inv-loop μ-loop
+loop-less c = search needs
+
+loop-again : tie.Need-loop-again Inv-loop μ-loop
+loop-again c = search needs
+
+same-length : tie.Need-same-length Inv-loop μ-loop
+same-length c = search needs
+
+returns : tie.Need-returns Inv-loop μ-loop
+returns c = search needs
+
+pub trace-table-spec : {M : Type 1} → statement M
+trace-table-spec =
+    tie.close
+    (tie.spec
+    Inv-loop
+    μ-loop
+    loop-holds
+    mul-p
+    array-copy-out-p
+    cast-trace-place
+    trace-place-requires
+    add-i
+    loop-less
+    loop-again
+    same-length
+    returns)
