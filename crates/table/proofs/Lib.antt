@@ -7,3 +7,9 @@ pub mod RefusedExactly
 pub mod RefusedKeeps
 pub mod WrittenCount
 pub mod Timeouts
+pub mod AnyOrder
+pub mod ApKeeps
+pub mod OwnRecord
+pub mod DemandThree
+pub mod Allowed
+pub mod OrderExamples

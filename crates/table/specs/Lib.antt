@@ -12,3 +12,4 @@ pub mod Step
 pub mod Marked
 pub mod Exactly
 pub mod Written
+pub mod Order

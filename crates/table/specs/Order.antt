@@ -1,0 +1,137 @@
+-- Demand 3: a run over a list of events, what it is to move the events about, and that the outcome is the same.
+-- The first part is for any rules: R is a record of the table, E an event with the buffer that it is handed, A what it gets. The second is
+-- the access point's rules. proofs/DemandThree.antt proves `demand-3`.
+-- Assumes nothing.
+use Prim.Native.Nat.{ℕ, _<_}
+use mathlib.Core.Path.{_≡_}
+use mathlib.Core.Bool.{true}
+use mathlib.Core.Option.{Option, none, some}
+use mathlib.Core.List.{List, [], _∷_}
+use lib.Dec.{ltb}
+use lib.ListN.{length, getD, set, getElem?}
+use Rattle.octets.specs.Pick.{pick}
+use Rattle.octets.specs.Frame.{longest}
+use Rattle.peer.specs.Settings.{ap}
+use Rattle.peer.specs.Record.{freeOf}
+use Rattle.peer.specs.Refuse.{roleAllowed}
+use Rattle.peer.specs.declared.settings.Settings.{Settings}
+use Rattle.peer.specs.declared.record.Record.{Record}
+use Rattle.table.specs.Fit.{wellFormed}
+use Rattle.table.specs.Read.{readOf}
+use Rattle.table.specs.Ask.{mayAsk}
+use Rattle.table.specs.Step.{stepOf, stepIn}
+use Rattle.table.specs.declared.read.Reading.{Reading}
+use Rattle.table.specs.declared.read.Reading.the-variants.{Refused, Discarded, Admitted, From}
+use Rattle.table.specs.declared.answer.Answer.{Answer}
+use Rattle.table.specs.declared.step.Event.{Event}
+use Rattle.table.specs.declared.step.Event.the-variants as event
+
+module _ {R E A : Type 0} (step : List R → E → List R × A) where
+  -- The table after all events, one after the other.
+  abbrev pub end : List R → List E → List R
+  end t [] = t
+  end t (e ∷ l) = end (step t e .0) l
+
+  -- What each event gets, in the events' order.
+  abbrev pub answers : List R → List E → List A
+  answers t [] = []
+  answers t (e ∷ l) = step t e .1 ∷ answers (step t e .0) l
+
+-- "Move the events about, but keep each peer's own events in order; events that name no valid peer may go anywhere."
+-- l₂ is l₁ with its events moved about: `to k` is the place in l₂ of the event at place k of l₁, and `from` goes back. An event whose key is
+-- `none` names no valid peer.
+pub record Moved {E : Type 0} (key : E → Option ℕ) (l₁ l₂ : List E) (to from : ℕ → ℕ) : Type 0 where
+  pub to-in : (k : ℕ) → k < length l₁ → to k < length l₂
+  pub from-in : (k : ℕ) → k < length l₂ → from k < length l₁
+  pub from-to : (k : ℕ) → k < length l₁ → from (to k) ≡ k
+  pub to-from : (k : ℕ) → k < length l₂ → to (from k) ≡ k
+  pub same-event : (k : ℕ) → k < length l₁ → getElem? l₂ (to k) ≡ getElem? l₁ k
+  pub in-order : (j k : ℕ) (e f : E) (a : ℕ) → j < k → getElem? l₁ j ≡ some e → getElem? l₁ k ≡ some f → key e ≡ some a → key f ≡ some a → to j < to k
+
+-- A record of the table has the address a.
+abbrev pub Has : {R : Type 0} → R → (R → ℕ) → List R → ℕ → Type 0
+Has d addr t a = (i : ℕ) × (i < length t) × (addr (getD t i d) ≡ a)
+
+-- "every peer named already has a record"
+abbrev pub Named : {R E : Type 0} → R → (R → ℕ) → (E → Option ℕ) → List R → List E → Type 0
+Named {E = E} d addr key t l = (k : ℕ) (e : E) (a : ℕ) → getElem? l k ≡ some e → key e ≡ some a → Has d addr t a
+
+-- What makes the order between peers not matter: an event acts on its own peer's record alone.
+pub record Local {R E A : Type 0} (d : R) (addr : R → ℕ) (key : E → Option ℕ) (WF : List R → Type 0) (step : List R → E → List R × A)
+    (next : ℕ → R → E → R) (said : ℕ → R → E → A) (alone : E → A) : Type 0 where
+  -- a step of a peer with a record keeps the table well formed
+  pub keeps : (t : List R) (e : E) (i : ℕ) → WF t → i < length t → key e ≡ some (addr (getD t i d)) → WF (step t e .0)
+  -- an event that names a peer with a record, at place i, changes that record alone; what it gets depends on nothing else
+  pub acts : (t : List R) (e : E) (i : ℕ) → WF t → i < length t → key e ≡ some (addr (getD t i d)) → step t e ≡ (set t i (next i (getD t i d) e), said i (getD t i d) e)
+  -- and no record changes its address
+  pub same : (i : ℕ) (r : R) (e : E) → addr (next i r e) ≡ addr r
+  -- an event that names no valid peer changes nothing, and gets the same whatever the table
+  pub stays : (t : List R) (e : E) → WF t → key e ≡ none → step t e ≡ (t, alone e)
+
+-- "the end table is the same place for place, and every event gets the same answer and the same bytes": the event at place k, wherever it went
+pub record SameOutcome {R E A : Type 0} (step : List R → E → List R × A) (t : List R) (l₁ l₂ : List E) (to : ℕ → ℕ) : Type 0 where
+  pub table : end step t l₂ ≡ end step t l₁
+  pub answer : (k : ℕ) → k < length l₁ → getElem? (answers step t l₂) (to k) ≡ getElem? (answers step t l₁) k
+
+-- "events without clock steps": a frame's octets; or a primitive, with number, peer address and code
+pub data Coming : Type 0 where
+  frame : List ℕ → Coming
+  primitive : ℕ → ℕ → ℕ → Coming
+
+-- "each handed a buffer of its own"
+pub record Handed : Type 0 where
+  pub coming : Coming
+  pub out : List ℕ
+
+-- "the same answer and the same bytes"
+pub record Gets : Type 0 where
+  pub answer : Answer
+  pub bytes : List ℕ
+
+abbrev pub eventOf : Coming → Event
+eventOf (frame xs) = event.Frame
+eventOf (primitive q a c) = event.Ask q a c
+
+abbrev pub octetsOf : Coming → List ℕ
+octetsOf (frame xs) = xs
+octetsOf (primitive q a c) = []
+
+-- "By the rules of demand 2": the step that the code is proved equal to
+unfoldable pub happens : Settings → List Record → Handed → List Record × Gets
+happens s t e = (
+  stepOf s t (eventOf (e .coming)) (octetsOf (e .coming)) (length (e .out)) .table,
+  record {
+    answer = stepOf s t (eventOf (e .coming)) (octetsOf (e .coming)) (length (e .out)) .answer;
+    bytes = stepIn s t (eventOf (e .coming)) (octetsOf (e .coming)) (e .out);
+  },
+)
+
+-- The peer that a frame names: Address 2, where the frame is read as far as that and it is valid.
+abbrev pub readPeer : Reading → Option ℕ
+readPeer (Refused n) = none
+readPeer Discarded = none
+readPeer Admitted = none
+readPeer (From peer group k h) = some peer
+
+-- The peer that a primitive names: its address, where neither 3 nor 5 refuses it.
+abbrev pub comingPeer : Settings → Coming → Option ℕ
+comingPeer s (frame xs) = readPeer (readOf (s .own) xs)
+comingPeer s (primitive q a c) = pick (mayAsk s q a c) (pick (roleAllowed q (s .role)) (some a) none) none
+
+-- The valid peer that an event names; none, too, where its buffer is refused.
+unfoldable pub peerNamed : Settings → Handed → Option ℕ
+peerNamed s e = pick (ltb (length (e .out)) longest) none (comingPeer s (e .coming))
+
+abbrev pub addressOf : Record → ℕ
+addressOf p = p .address
+
+-- Demand 3: "At an access point, take fixed settings, a well-formed table and a list of events without clock steps, each handed a buffer of its
+-- own, where every peer named already has a record. Move the events about .. the end table is the same place for place, and every event gets
+-- the same answer and the same bytes." (That there are 32 records is the table's type; it holds for any number.)
+abbrev pub OrderFree : Settings → Type 0
+OrderFree s =
+    (t : List Record) (l₁ l₂ : List Handed) (to from : ℕ → ℕ)
+    → s .role ≡ ap → wellFormed s t ≡ true
+    → Named freeOf addressOf (peerNamed s) t l₁
+    → Moved (peerNamed s) l₁ l₂ to from
+    → SameOutcome (happens s) t l₁ l₂ to
