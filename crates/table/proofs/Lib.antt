@@ -1,4 +1,5 @@
 pub mod Loops
+pub mod Lists
 pub mod Ticks
 pub mod MarkedCases
 pub mod Both
@@ -13,3 +14,5 @@ pub mod OwnRecord
 pub mod DemandThree
 pub mod Allowed
 pub mod OrderExamples
+pub mod StepKeeps
+pub mod DiscardLeaves

@@ -1,0 +1,168 @@
+-- What one record must be, as facts; and a record that comes of another and keeps them.
+-- Assumes nothing.
+use Prim.Native.Nat.{ℕ, _≤_}
+use mathlib.Core.Path.{_≡_, refl, sym, _∙_}
+use mathlib.Core.Bool.{Bool, true, false, not, _&&_, _||_}
+use native.Mathlib.Omega.{arith}
+use lib.Dec.{eqb, leb}
+use borrow.Author.Tests.{le-leb, leb-true, eqb-true}
+use Rattle.octets.proofs.Branch.{by-bool}
+use Rattle.octets.specs.Address.{validOf}
+use Rattle.octets.specs.declared.heard.Kind.the-variants.{Association, Authentication, Reassociation}
+use Rattle.octets.specs.declared.heard.Kind.{Kind}
+use Rattle.peer.specs.Fit.{stands, askedFits, awaitingFits, sentFits, exchangeFits, holdFits, recordFits}
+use Rattle.peer.specs.Moves.{movedOf}
+use Rattle.peer.specs.Record.{associates, changedOf, isJoined, underWay, sentOf, askedOf, kindOf}
+use Rattle.peer.specs.Settings.{ap, station}
+use Rattle.peer.specs.declared.moves.Move.the-variants as move
+use Rattle.peer.specs.declared.moves.Move.{Move}
+use Rattle.peer.specs.declared.record.Exchange.the-variants.{Asked, Awaiting, None, Sent}
+use Rattle.peer.specs.declared.record.Exchange.{Exchange}
+use Rattle.peer.specs.declared.record.Record.{Record}
+use Rattle.peer.specs.declared.settings.Settings.{Settings}
+
+pub wrong : {P : Type 0} → _≡_ {A = Bool} false true → P
+wrong h = let z : _≡_ {A = ℕ} 0 1 = cc in absurd (omega arith)
+
+pub clash : {P : Type 0} {b : Bool} → b ≡ true → b ≡ false → P
+clash t f = wrong (sym f ∙ t)
+
+pub both : (a b : Bool) → (a && b) ≡ true → (a ≡ true) × (b ≡ true)
+both true b h = (refl, h)
+both false b h = wrong h
+
+pub or-left : (a b : Bool) → (a || b) ≡ false → (a ≡ false) × (b ≡ false)
+or-left true b h = wrong (sym h)
+or-left false b h = (refl, h)
+
+pub or-right : (a b : Bool) → b ≡ true → (a || b) ≡ true
+or-right true b h = refl
+or-right false b h = h
+
+-- the clauses of `recordFits`
+pub record Fits (s : Settings) (p : Record) : Type 0 where
+  pub low : 1 ≤ p .state
+  pub high : p .state ≤ 4
+  pub apart : not (eqb (p .address) (s .own)) ≡ true
+  pub valid : validOf (p .address) ≡ true
+  pub held : holdFits (s .role) (p .hold) ≡ true
+  pub suits : exchangeFits (p .exchange) (s .role) (p .state) (p .left) ≡ true
+
+pub fits-of : (s : Settings) (p : Record) → recordFits s p ≡ true → Fits s p
+unfolding recordFits
+fits-of s p h =
+    let a = both (leb 1 (p .state)) _ h in
+    let b = both (leb (p .state) 4) _ (a .1) in
+    let c = both (not (eqb (p .address) (s .own))) _ (b .1) in
+    let d = both (validOf (p .address)) _ (c .1) in
+    let e = both (holdFits (s .role) (p .hold)) _ (d .1) in
+    record { low = leb-true 1 (p .state) (a .0); high = leb-true (p .state) 4 (b .0); apart = c .0; valid = d .0; held = e .0; suits = e .1 }
+
+pub of-fits : (s : Settings) (p : Record) → Fits s p → recordFits s p ≡ true
+unfolding recordFits
+of-fits s p f = rw (le-leb 1 (p .state) (f .low), le-leb (p .state) 4 (f .high), f .apart, f .valid, f .held) (f .suits)
+
+-- The record q comes of p: it fits, and has the same address; and at a station it is in State 3 or 4, or has a (re)association under way,
+-- only where p was so, or where any other record leaves State 3 or 4 with it (sole), or where no record had one (not busy).
+pub record Keeps (s : Settings) (busy : Bool) (p q : Record) (sole : Bool) : Type 0 where
+  pub fits : Fits s q
+  pub same : q .address ≡ p .address
+  pub joins : eqb (s .role) ap ≡ false → sole ≡ false → isJoined q ≡ true → isJoined p ≡ true
+  pub starts : eqb (s .role) ap ≡ false → busy ≡ true → associates q ≡ true → associates p ≡ true
+
+-- ---- the states
+
+pub moved-low : (rsna state : ℕ) (m : Move) → 1 ≤ state → 1 ≤ movedOf rsna state m
+moved-low rsna state move.Keep h = h
+moved-low rsna state move.Authenticate h = by-bool (eqb state 1) (λ e. rw e (omega arith)) (λ e. rw e h)
+moved-low rsna state move.Deauthenticate h = omega arith
+moved-low rsna state move.Drop h = omega arith
+moved-low rsna state move.Join h = by-bool (eqb rsna 1) (λ e. rw e (omega arith)) (λ e. rw e (omega arith))
+moved-low rsna state move.Secure h = by-bool (eqb state 3) (λ e. rw e (omega arith)) (λ e. rw e h)
+
+pub moved-high : (rsna state : ℕ) (m : Move) → state ≤ 4 → movedOf rsna state m ≤ 4
+moved-high rsna state move.Keep h = h
+moved-high rsna state move.Authenticate h = by-bool (eqb state 1) (λ e. rw e (omega arith)) (λ e. rw e h)
+moved-high rsna state move.Deauthenticate h = omega arith
+moved-high rsna state move.Drop h = omega arith
+moved-high rsna state move.Join h = by-bool (eqb rsna 1) (λ e. rw e (omega arith)) (λ e. rw e (omega arith))
+moved-high rsna state move.Secure h = by-bool (eqb state 3) (λ e. rw e (omega arith)) (λ e. rw e h)
+
+-- a move that does not raise a state to 3 or 4
+abbrev pub calm : Move → Bool
+calm move.Keep = true
+calm move.Authenticate = true
+calm move.Deauthenticate = true
+calm move.Drop = true
+calm move.Join = false
+calm move.Secure = true
+
+pub calm-moved : (rsna state : ℕ) (m : Move) → calm m ≡ true → leb 3 (movedOf rsna state m) ≡ true → leb 3 state ≡ true
+calm-moved rsna state move.Keep c h = h
+calm-moved rsna state move.Authenticate c h = by-bool (eqb state 1) (λ e. wrong (rw e at h)) (λ e. rw e at h)
+calm-moved rsna state move.Deauthenticate c h = wrong h
+calm-moved rsna state move.Drop c h = wrong h
+calm-moved rsna state move.Join c h = wrong c
+calm-moved rsna state move.Secure c h =
+    by-bool (eqb state 3) (λ e. rw (eqb-true state 3 e)) (λ e. rw e at h)
+
+-- ---- the exchanges
+
+-- an exchange fits by whether its time is 0, and by whether the state is 2 or above
+pub suits-still :
+    (e : Exchange) (role state left state′ left′ : ℕ) → exchangeFits e role state left ≡ true → eqb left 0 ≡ eqb left′ 0
+    → leb 2 state ≡ leb 2 state′ → exchangeFits e role state′ left′ ≡ true
+unfolding askedFits awaitingFits sentFits stands
+suits-still None role state left state′ left′ h l k = rw (← l) h
+suits-still (Asked a) role state left state′ left′ h l k = rw (← l, ← k) h
+suits-still (Awaiting a) role state left state′ left′ h l k = rw (← l, ← k) h
+suits-still (Sent a) role state left state′ left′ h l k = rw (← l, ← k) h
+
+-- an exchange that was sent is a station's
+pub sent-station :
+    (e : Exchange) (k : Kind) (role state left : ℕ) → exchangeFits e role state left ≡ true → eqb (sentOf e) (kindOf k) ≡ true
+    → eqb role ap ≡ false
+unfolding sentFits
+sent-station None Authentication role state left h q = wrong q
+sent-station None Association role state left h q = wrong q
+sent-station None Reassociation role state left h q = wrong q
+sent-station (Asked a) Authentication role state left h q = wrong q
+sent-station (Asked a) Association role state left h q = wrong q
+sent-station (Asked a) Reassociation role state left h q = wrong q
+sent-station (Awaiting a) Authentication role state left h q = wrong q
+sent-station (Awaiting a) Association role state left h q = wrong q
+sent-station (Awaiting a) Reassociation role state left h q = wrong q
+sent-station (Sent a) k role state left h q = rw (eqb-true role station (both (eqb role station) _ h .0))
+
+-- a (re)association asked stands in State 2 or above
+pub asked-stands :
+    (e : Exchange) (n role state left : ℕ) → exchangeFits e role state left ≡ true → leb 2 n ≡ true → eqb (askedOf e) n ≡ true
+    → leb 2 state ≡ true
+unfolding askedFits stands
+asked-stands None n role state left h two q = wrong (rw (← eqb-true 0 n q) at two)
+asked-stands (Asked Authentication) n role state left h two q = wrong (rw (← eqb-true 1 n q) at two)
+asked-stands (Asked Association) n role state left h two q = both (eqb left 0) _ (both (eqb role ap) _ h .1) .1
+asked-stands (Asked Reassociation) n role state left h two q = both (eqb left 0) _ (both (eqb role ap) _ h .1) .1
+asked-stands (Awaiting k) n role state left h two q = wrong (rw (← eqb-true 0 n q) at two)
+asked-stands (Sent k) n role state left h two q = wrong (rw (← eqb-true 0 n q) at two)
+
+-- ---- a changed record
+
+module _ (s : Settings) (busy : Bool) (p : Record) (f : Fits s p) where
+  pub keeps-all : Keeps s busy p p false
+  keeps-all = record { fits = f; same = refl; joins = λ a b c. c; starts = λ a b c. c }
+
+  pub keeps-changed :
+      (state : ℕ) (e : Exchange) (left hold : ℕ) (sole : Bool) → 1 ≤ state → state ≤ 4 → holdFits (s .role) hold ≡ true
+      → exchangeFits e (s .role) state left ≡ true
+      → (eqb (s .role) ap ≡ false → sole ≡ false → leb 3 state ≡ true → leb 3 (p .state) ≡ true)
+      → (eqb (s .role) ap ≡ false → busy ≡ true → leb 2 (underWay e) ≡ true → leb 2 (underWay (p .exchange)) ≡ true)
+      → Keeps s busy p (changedOf p state e left hold) sole
+  unfolding changedOf isJoined associates
+  keeps-changed state e left hold sole low high held suits joins starts =
+      record {
+        fits = record { low = low; high = high; apart = f .apart; valid = f .valid; held = held; suits = suits };
+        same = refl;
+        joins = joins;
+        starts = starts;
+      }

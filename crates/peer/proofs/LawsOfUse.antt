@@ -1,0 +1,244 @@
+-- Laws that a user of the rules relies on, at one peer: what can set a hold, what can raise a state to 3 or 4, and where a deauthentication
+-- ends. Each is about the definitions that the code is proved equal to.
+-- Assumes nothing.
+use Prim.Native.Nat.{ℕ, _+_, _-_, _≤_, _<_}
+use mathlib.Core.Path.{_≡_, refl, ap, sym, _∙_}
+use mathlib.Core.Bool.{Bool, true, false, not, _&&_, _||_}
+use native.Mathlib.Omega.{arith}
+use lib.Dec.{ltb, leb, eqb}
+use borrow.Author.Tests.{ltb-true, ltb-false, eqb-true, eqb-false, eq-eqb}
+use Rattle.octets.specs.Pick.{pick}
+use Rattle.octets.proofs.Branch.{by-bool}
+use Rattle.octets.specs.declared.class.FrameClass.{FrameClass}
+use Rattle.octets.specs.declared.element.Comeback.{Comeback}
+use Rattle.octets.specs.declared.element.Comeback.the-variants.{Given}
+use Rattle.octets.specs.declared.heard.Kind.{Kind}
+use Rattle.octets.specs.declared.heard.Heard.{Heard}
+use Rattle.octets.specs.declared.heard.Heard.the-variants as heard
+use Rattle.peer.specs.Codes.{lastAid}
+use Rattle.peer.specs.Record.{changedOf, sentOf, kindOf, underWay, freeOf}
+use Rattle.peer.specs.Moves.{movedOf}
+use Rattle.peer.specs.Turn.{admit, discard, confirmOf, toldOf, turnOf, soleOf, endedOf, begunOf, repliedOf, stillOf}
+use Rattle.peer.specs.Filter.{passesOf, barredOf}
+use Rattle.peer.specs.Authentication.{requestedOf, authenticationAtAp, authenticationAtStation, authenticationHeard, answeredMove}
+use Rattle.peer.specs.Farewell.{deauthenticationHeard, disassociationHeard}
+use Rattle.peer.specs.Association.{requestHeard, acceptedOf, rejectedOf, responseHeard}
+use Rattle.peer.specs.Hear.{isExchange, actOf, groupHeard, hearOf}
+use Rattle.peer.specs.Ask.{startedOf, answerOf, deauthenticateOf, failedOf, associateOf, reassociateOf, disassociateOf, awaitedOf, declinedOf, respondOf, secureOf, reportedMove, reportOf, askOf}
+use Rattle.peer.specs.Tick.{expiredMove, timedOf, freedOf, tickOf}
+use Rattle.peer.specs.declared.settings.Settings.{Settings}
+use Rattle.peer.specs.declared.record.Record.{Record}
+use Rattle.peer.specs.declared.refuse.Others.{Others}
+use Rattle.peer.specs.declared.moves.Move.the-variants as move
+use Rattle.peer.specs.declared.reply.Reply.the-variants.{Silent}
+use Rattle.peer.specs.declared.turn.Turn.{Turn}
+
+-- What holds of both choices holds of the choice.
+pick-both : {A : Type 0} (P : A → Type 0) (b : Bool) {x y : A} → P x → P y → P (pick b x y)
+pick-both P true px py = px
+pick-both P false px py = py
+
+pick-by : {A : Type 0} (P : A → Type 0) (b : Bool) {x y : A} → (b ≡ true → P x) → (b ≡ false → P y) → P (pick b x y)
+pick-by P true px py = px refl
+pick-by P false px py = py refl
+
+-- ---- Holds
+
+Held : Record → Turn → Type 0
+Held p t = t .peer .hold ≡ p .hold
+
+-- Whether what is heard may set a hold: a disassociation, or a rejection.
+abbrev pub setsHold : Heard → Bool
+setsHold heard.Other = false
+setsHold (heard.Authentication algorithm transaction status) = false
+setsHold (heard.Deauthentication reason) = false
+setsHold (heard.Disassociation reason) = true
+setsHold (heard.Request k current) = false
+setsHold (heard.Response k status aid c) = not (eqb status 0)
+
+act-held : (s : Settings) (p : Record) (h : Heard) → setsHold h ≡ false → Held p (actOf s p h)
+unfolding Held stillOf repliedOf turnOf authenticationHeard authenticationAtAp authenticationAtStation requestedOf begunOf endedOf changedOf deauthenticationHeard requestHeard responseHeard acceptedOf soleOf
+act-held s p heard.Other e = refl
+act-held s p (heard.Authentication a t st) e =
+    pick-both (Held p) (eqb (s .role) 1)
+    (pick-both (Held p) (eqb t 1) (pick-both (Held p) (eqb a 0) refl refl) refl)
+    (pick-both (Held p) (eqb a 0 && (eqb t 2 && eqb (sentOf (p .exchange)) 1)) refl refl)
+act-held s p (heard.Deauthentication r) e = pick-both (Held p) (ltb (p .state) 2) refl refl
+act-held s p (heard.Disassociation r) e = let z : _≡_ {A = Bool} true false = e in cc
+act-held s p (heard.Request k c) e = pick-both (Held p) (eqb (s .role) 1) refl refl
+act-held s p (heard.Response k st aid c) e =
+    pick-both (Held p) (eqb (sentOf (p .exchange)) (kindOf k)) (accepted (eqb st 0) e) refl
+  where
+    accepted : (b : Bool) → not b ≡ false → Held p (pick b (acceptedOf s p k aid) (rejectedOf s p k st c))
+    accepted true e = pick-both (Held p) (eqb aid 0 || ltb lastAid aid) refl refl
+    accepted false e = let z : _≡_ {A = Bool} true false = e in cc
+
+-- "a station sets the hold"; "Other status: .. hold set": a hold is set by a received disassociation or rejection, and by no other frame.
+pub hold-kept-heard : (s : Settings) (p : Record) (k : FrameClass) (g : Bool) (h : Heard) → setsHold h ≡ false → hearOf s p k g h .peer .hold ≡ p .hold
+unfolding Held hearOf groupHeard repliedOf stillOf turnOf
+hold-kept-heard s p k g h e =
+    pick-both (Held p) (not (passesOf k (p .state))) refl
+    (pick-both (Held p) g (pick-both (Held p) (isExchange h) refl (act-held s p h e)) (act-held s p h e))
+
+-- No primitive sets a hold.
+pub hold-kept-asked : (s : Settings) (aid : ℕ) (p : Record) (o : Others) (q code : ℕ) → askOf s aid p o q code .peer .hold ≡ p .hold
+unfolding Held askOf startedOf answerOf deauthenticateOf associateOf reassociateOf failedOf disassociateOf respondOf awaitedOf declinedOf secureOf reportOf turnOf begunOf endedOf changedOf
+hold-kept-asked s aid p o q code =
+    pick-both (Held p) (eqb q 1) refl
+    (pick-both (Held p) (eqb q 2) refl
+    (pick-both (Held p) (eqb q 3) refl
+    (pick-both (Held p) (eqb q 4) (pick-both (Held p) (eqb (p .state) 1) refl refl)
+    (pick-both (Held p) (eqb q 5) (pick-both (Held p) (eqb (o .associated) 0 || eqb (p .state) 1) refl refl)
+    (pick-both (Held p) (eqb q 6) (pick-both (Held p) (ltb (p .state) 3) refl refl)
+    (pick-both (Held p) (eqb q 7) (pick-both (Held p) (eqb code 0) refl refl)
+    (pick-both (Held p) (eqb q 8) (pick-both (Held p) (eqb code 0) refl refl)
+    (pick-both (Held p) (eqb q 9) refl refl))))))))
+
+-- "A comeback of 0 is a hold of 0."
+pub comeback-zero : (s : Settings) (p : Record) (k : Kind) (status : ℕ) → rejectedOf s p k status (Given 0) .peer .hold ≡ 0
+unfolding rejectedOf turnOf endedOf changedOf
+comeback-zero s p k status = refl
+
+-- The clock lowers a hold by the step, not below 0, and does nothing else to it.
+timed-hold : (s : Settings) (p : Record) (d : ℕ) → timedOf s p d .peer .hold ≡ p .hold - d
+unfolding timedOf endedOf changedOf
+timed-hold s p d = by-bool (eqb (p .left) 0) (λ e. rw e) (λ e. by-bool (ltb d (p .left)) (λ f. rw (e, f)) (λ f. rw (e, f)))
+
+freed-hold : (q : Record) → freedOf q .hold ≡ q .hold
+unfolding freedOf
+freed-hold q = by-bool (eqb (q .state) 1 && (eqb (q .hold) 0 && eqb (underWay (q .exchange)) 0)) gone (λ e. rw e)
+  where
+    both-zero : (a b c : Bool) → (a && (b && c)) ≡ true → b ≡ true
+    both-zero true true c e = refl
+    both-zero true false c e = e
+    both-zero false b c e = let z : _≡_ {A = Bool} false true = e in cc
+
+    gone : (eqb (q .state) 1 && (eqb (q .hold) 0 && eqb (underWay (q .exchange)) 0)) ≡ true → pick (eqb (q .state) 1 && (eqb (q .hold) 0 && eqb (underWay (q .exchange)) 0)) freeOf q .hold ≡ q .hold
+    gone e = rw e (sym (eqb-true (q .hold) 0 (both-zero (eqb (q .state) 1) (eqb (q .hold) 0) (eqb (underWay (q .exchange)) 0) e)))
+
+pub hold-after-step : (s : Settings) (p : Record) (d : ℕ) → tickOf s p d .peer .hold ≡ p .hold - d
+unfolding tickOf
+hold-after-step s p d = freed-hold (timedOf s p d .peer) ∙ timed-hold s p d
+
+-- ---- States
+
+-- A turn that leaves a peer below State 3.
+Low : Turn → Type 0
+Low t = t .peer .state < 3
+
+-- Whether what is heard may raise a state to 3 or 4: a response with status 0 and a valid AID.
+abbrev pub joins : Heard → Bool
+joins heard.Other = false
+joins (heard.Authentication algorithm transaction status) = false
+joins (heard.Deauthentication reason) = false
+joins (heard.Disassociation reason) = false
+joins (heard.Request k current) = false
+joins (heard.Response k status aid c) = eqb status 0 && not (eqb aid 0 || ltb lastAid aid)
+
+answered-low : (s : Settings) (p : Record) (status : ℕ) → p .state < 3 → movedOf (s .rsna) (p .state) (answeredMove status) < 3
+unfolding answeredMove
+answered-low s p status l = authenticated (eqb status 0)
+  where
+    two : (b : Bool) → pick b 2 (p .state) < 3
+    two true = omega arith
+    two false = l
+
+    authenticated : (b : Bool) → movedOf (s .rsna) (p .state) (pick b move.Authenticate move.Keep) < 3
+    authenticated true = two (eqb (p .state) 1)
+    authenticated false = l
+
+act-low : (s : Settings) (p : Record) (h : Heard) → p .state < 3 → joins h ≡ false → Low (actOf s p h)
+unfolding Low stillOf repliedOf turnOf authenticationHeard authenticationAtAp authenticationAtStation requestedOf begunOf endedOf changedOf deauthenticationHeard disassociationHeard requestHeard responseHeard acceptedOf rejectedOf soleOf
+act-low s p heard.Other l e = l
+act-low s p (heard.Authentication a t st) l e =
+    pick-both Low (eqb (s .role) 1)
+    (pick-both Low (eqb t 1) (pick-both Low (eqb a 0) l l) l)
+    (pick-both Low (eqb a 0 && (eqb t 2 && eqb (sentOf (p .exchange)) 1)) (answered-low s p st l) l)
+act-low s p (heard.Deauthentication r) l e = pick-both Low (ltb (p .state) 2) l (omega arith)
+act-low s p (heard.Disassociation r) l e = pick-both Low (ltb (p .state) 3) l (omega arith)
+act-low s p (heard.Request k c) l e = pick-both Low (eqb (s .role) 1) l l
+act-low s p (heard.Response k st aid c) l e =
+    pick-both Low (eqb (sentOf (p .exchange)) (kindOf k)) (answered (eqb st 0) (eqb aid 0 || ltb lastAid aid) e) l
+  where
+    answered : (b d : Bool) → (b && not d) ≡ false → Low (pick b (pick d (stillOf s p 1) (soleOf (turnOf s p (endedOf s p move.Join (p .hold)) 1 (toldOf (confirmOf k) 0) Silent))) (rejectedOf s p k st c))
+    answered true true e = l
+    answered true false e = let z : _≡_ {A = ℕ} 0 1 = cc in absurd (omega arith)
+    answered false d e = omega arith
+
+-- "Raising the AP's state at the response, before its acknowledgement" is an error: no frame raises a state to 3 or 4 but a response with
+-- status 0 and a valid AID, to a station that asked.
+pub rises-heard : (s : Settings) (p : Record) (k : FrameClass) (g : Bool) (h : Heard) → p .state < 3 → joins h ≡ false → hearOf s p k g h .peer .state < 3
+unfolding Low hearOf groupHeard repliedOf stillOf turnOf
+rises-heard s p k g h l e =
+    pick-both Low (not (passesOf k (p .state))) l
+    (pick-both Low g (pick-both Low (isExchange h) l (act-low s p h l e)) (act-low s p h l e))
+
+above : (q k : ℕ) → k ≤ q → eqb q k ≡ false → k + 1 ≤ q
+above q k h e = let n = eqb-false q k e in omega arith
+
+-- And no primitive but a transmit report with code 1. (A number outside 1 to 10 is refused before.)
+pub rises-asked : (s : Settings) (aid : ℕ) (p : Record) (o : Others) (q code : ℕ) → p .state < 3 → (q ≡ 10 → code ≡ 1 → ⊥) → 1 ≤ q → q ≤ 10 → askOf s aid p o q code .peer .state < 3
+unfolding Low askOf startedOf answerOf deauthenticateOf associateOf reassociateOf failedOf disassociateOf respondOf awaitedOf declinedOf secureOf reportOf reportedMove turnOf begunOf endedOf changedOf
+rises-asked s aid p o q code l other one ten =
+    pick-by Low (eqb q 1) (λ e. l) (λ f1.
+    pick-by Low (eqb q 2) (λ e. answered-low s p code l) (λ f2.
+    pick-by Low (eqb q 3) (λ e. omega arith) (λ f3.
+    pick-by Low (eqb q 4) (λ e. pick-both Low (eqb (p .state) 1) l l) (λ f4.
+    pick-by Low (eqb q 5) (λ e. pick-both Low (eqb (o .associated) 0 || eqb (p .state) 1) l l) (λ f5.
+    pick-by Low (eqb q 6) (λ e. pick-both Low (ltb (p .state) 3) l (omega arith)) (λ f6.
+    pick-by Low (eqb q 7) (λ e. pick-both Low (eqb code 0) l (omega arith)) (λ f7.
+    pick-by Low (eqb q 8) (λ e. pick-both Low (eqb code 0) l (omega arith)) (λ f8.
+    pick-by Low (eqb q 9) (λ e. secured (eqb (p .state) 3) refl) (λ f9.
+    reported (eqb code 1) refl (last f1 f2 f3 f4 f5 f6 f7 f8 f9))))))))))
+  where
+    secured : (b : Bool) → eqb (p .state) 3 ≡ b → pick b 4 (p .state) < 3
+    secured true e = let z = eqb-true (p .state) 3 e in absurd (omega arith)
+    secured false e = l
+
+    last : eqb q 1 ≡ false → eqb q 2 ≡ false → eqb q 3 ≡ false → eqb q 4 ≡ false → eqb q 5 ≡ false → eqb q 6 ≡ false → eqb q 7 ≡ false → eqb q 8 ≡ false → eqb q 9 ≡ false → q ≡ 10
+    last a b c d e f g h i =
+        let half = above q 4 (above q 3 (above q 2 (above q 1 one a) b) c) d in
+        let most = above q 9 (above q 8 (above q 7 (above q 6 (above q 5 half e) f) g) h) i in
+        omega arith
+
+    reported : (b : Bool) → eqb code 1 ≡ b → q ≡ 10 → movedOf (s .rsna) (p .state) (pick b move.Join move.Keep) < 3
+    reported true e t = absurd (other t (eqb-true code 1 e))
+    reported false e t = l
+
+-- A deauthentication, heard or asked, ends in State 1.
+pub deauthentication-ends : (s : Settings) (p : Record) (reason : ℕ) → 1 ≤ p .state → (deauthenticationHeard s p reason .peer .state ≡ 1) × (deauthenticateOf s p reason .peer .state ≡ 1)
+unfolding deauthenticationHeard deauthenticateOf stillOf repliedOf turnOf endedOf changedOf
+deauthentication-ends s p reason h =
+    (by-bool (ltb (p .state) 2) (λ e. rw e (let l = ltb-true (p .state) 2 e in omega arith)) (λ e. rw e), refl)
+
+-- A discard leaves the record, and every other record too.
+Admitted : Turn → Type 0
+Admitted t = t .verdict ≡ admit
+
+act-admitted : (s : Settings) (p : Record) (h : Heard) → Admitted (actOf s p h)
+unfolding Admitted stillOf repliedOf turnOf authenticationHeard authenticationAtAp authenticationAtStation requestedOf deauthenticationHeard disassociationHeard requestHeard responseHeard acceptedOf rejectedOf soleOf
+act-admitted s p heard.Other = refl
+act-admitted s p (heard.Authentication a t st) =
+    pick-both Admitted (eqb (s .role) 1)
+    (pick-both Admitted (eqb t 1) (pick-both Admitted (eqb a 0) refl refl) refl)
+    (pick-both Admitted (eqb a 0 && (eqb t 2 && eqb (sentOf (p .exchange)) 1)) refl refl)
+act-admitted s p (heard.Deauthentication r) = pick-both Admitted (ltb (p .state) 2) refl refl
+act-admitted s p (heard.Disassociation r) = pick-both Admitted (ltb (p .state) 3) refl refl
+act-admitted s p (heard.Request k c) = pick-both Admitted (eqb (s .role) 1) refl refl
+act-admitted s p (heard.Response k st aid c) =
+    pick-both Admitted (eqb (sentOf (p .exchange)) (kindOf k))
+    (pick-both Admitted (eqb st 0) (pick-both Admitted (eqb aid 0 || ltb lastAid aid) refl refl) refl)
+    refl
+
+Kept : Record → Turn → Type 0
+Kept p t = t .verdict ≡ discard → (t .peer ≡ p) × (t .sole ≡ false)
+
+act-kept : (s : Settings) (p : Record) (h : Heard) → Kept p (actOf s p h)
+unfolding Kept Admitted
+act-kept s p h v = let a = act-admitted s p h in let z : _≡_ {A = ℕ} 1 2 = cc in absurd (omega arith)
+
+pub discard-turn : (s : Settings) (p : Record) (k : FrameClass) (g : Bool) (h : Heard) → hearOf s p k g h .verdict ≡ discard → (hearOf s p k g h .peer ≡ p) × (hearOf s p k g h .sole ≡ false)
+unfolding Kept hearOf groupHeard repliedOf stillOf turnOf
+discard-turn s p k g h =
+    pick-both (Kept p) (not (passesOf k (p .state))) (λ v. (refl, refl))
+    (pick-both (Kept p) g (pick-both (Kept p) (isExchange h) (λ v. (refl, refl)) (act-kept s p h)) (act-kept s p h))
