@@ -3,6 +3,7 @@ mod input;
 mod line;
 mod play;
 mod run;
+mod show;
 mod text;
 mod trace;
 

@@ -5,14 +5,14 @@
 -- Assumes nothing.
 use Prim.Native.Nat.{ℕ, _%_, _<_}
 use native.Mathlib.Omega.{arith}
-use mathlib.Core.Path.{_≡_, refl, sym, _∙_}
-use mathlib.Core.Bool.{Bool, true, false, not, _&&_, _||_, true≢false}
+use mathlib.Core.Path.{_≡_, refl}
+use mathlib.Core.Bool.{Bool, true, false, not, _&&_, _||_}
 use mathlib.Core.Option.{Option, none, some}
-use mathlib.Core.List.{List, [], _∷_}
+use mathlib.Core.List.{List}
 use lib.Dec.{eqb, ltb, leb}
 use lib.ListN.{length, getD, set}
-use lib.Seq.{set-getD, map-set-same}
-use borrow.Author.Tests.{not-true, not-false}
+use lib.Seq.{set-getD}
+use borrow.Author.Tests.{not-true}
 use Rattle.octets.specs.Pick.{pick}
 use Rattle.octets.specs.Address.{validOf}
 use Rattle.octets.specs.Field.{field}
@@ -20,19 +20,19 @@ use Rattle.octets.specs.Shape.{shapeOf}
 use Rattle.octets.specs.Frame.{longest}
 use Rattle.octets.specs.declared.shape.Shape.{Shape}
 use Rattle.octets.specs.declared.shape.Shape.the-variants.{Misfit, Classless, Bare, Full}
-use Rattle.peer.specs.Settings.{ap as accessPoint, settingsFit}
-use Rattle.peer.specs.Record.{freeOf, isFree}
-use Rattle.peer.specs.Fit.{recordFits, placeFits}
+use Rattle.peer.specs.Settings.{ap as accessPoint}
+use Rattle.peer.specs.Record.{freeOf}
+use Rattle.peer.specs.Fit.{placeFits}
 use Rattle.peer.specs.Turn.{admit, discard}
 use Rattle.peer.specs.Hear.{hearOf}
-use Rattle.peer.specs.Refuse.{codeAllowed, roleAllowed, conflictOf, mismatchOf, heldOf}
+use Rattle.peer.specs.Refuse.{codeAllowed, roleAllowed}
 use Rattle.peer.specs.Ask.{askOf}
 use Rattle.peer.specs.declared.settings.Settings.{Settings}
 use Rattle.peer.specs.declared.record.Record.{Record}
 use Rattle.peer.specs.declared.refuse.Others.{Others}
 use Rattle.peer.specs.declared.turn.Turn.{Turn}
-use Rattle.table.specs.Places.{allOf, addressesOf, findOf}
-use Rattle.table.specs.Fit.{distinctOf, sparseOf, wellFormed}
+use Rattle.table.specs.Places.{addressesOf, findOf}
+use Rattle.table.specs.Fit.{wellFormed}
 use Rattle.table.specs.Others.{othersOf}
 use Rattle.table.specs.Answer.{refusalAnswer, verdictAnswer, turnAnswer, countAnswer, settledOf, refusedOf, saidLength, saidIn, steppedOf}
 use Rattle.table.specs.Refusals.{firstOf, unless}
@@ -40,15 +40,16 @@ use Rattle.table.specs.Seat.{aidOf, seatedOf}
 use Rattle.table.specs.Read.{forUs, readBare, readFrom, readFull, readAs, readOf}
 use Rattle.table.specs.Receive.{heardFrom, heardAt, receivedOf}
 use Rattle.table.specs.Ask.{mayAsk, noPlace, refusalsAt, askedAt, askedOf}
-use Rattle.table.specs.Order.{Local, Moved, Named, SameOutcome, Coming, frame, primitive, Handed, Gets, happens, readPeer, comingPeer, peerNamed, addressOf, OrderFree}
+use Rattle.table.specs.Order.{Local, Moved, Named, SameOutcome, Coming, frame, primitive, Handed, Gets, happens, eventOf, octetsOf, Whole, readPeer, comingPeer, peerNamed, addressOf, OrderFree}
 use Rattle.table.specs.declared.places.Found.the-variants.{At, Nothing}
 use Rattle.table.specs.declared.read.Reading.{Reading}
 use Rattle.table.specs.declared.read.Reading.the-variants.{Refused, Discarded, Admitted, From}
 use Rattle.table.specs.declared.answer.Answer.{Answer}
 use Rattle.table.specs.declared.answer.Met.{Met}
 use Rattle.table.proofs.AnyOrder.{any-order, coarser}
-use Rattle.table.proofs.OwnRecord.{all-at, all-set, or-right, find-at, wf-distinct, wf-fits, Alone, hear-kept, ask-kept, hear-alone, ask-alone}
-use Rattle.table.proofs.ApKeeps.{and-left, and-right, either, when, Sound, read-sound, hear-good, ask-good}
+use Rattle.table.proofs.OwnRecord.{all-at, find-at, wf-distinct, wf-fits, Alone, hear-kept, ask-kept, hear-alone, ask-alone}
+use Rattle.table.proofs.Both.{and-left, and-right, either}
+use Rattle.table.proofs.StepKeeps.{step-keeps}
 
 -- what an event comes to: at a peer's place and record; and where it names none
 abbrev told : Met → List ℕ → List Record × Gets
@@ -238,53 +239,6 @@ module _ (s : Settings) where
           go true x false y z = rw (x, y)
           go false x l y z = rw x
 
-  -- "Each step keeps this": a step of a peer with a record makes of it one that fits, so that the table stays well formed.
-  module _ (role : s .role ≡ accessPoint) (i : ℕ) (p : Record) (f : recordFits s p ≡ true) where
-    next-read : (r : Reading) → Sound r (p .state) → recordFits s (heardNext p r) ≡ true
-    next-read (Refused n) y = f
-    next-read Discarded y = f
-    next-read Admitted y = f
-    next-read (From peer group k h) y = hear-good s p role f k group h y
-
-    next-fits : (c : Coming) → recordFits s (nextOf i p c) ≡ true
-    unfolding firstOf
-    next-fits (frame xs) = next-read (readOf (s .own) xs) (read-sound (s .own) xs (p .state))
-    next-fits (primitive q a c) =
-        when (λ (x : Record). recordFits s x ≡ true) (eqb (refusal i p q a c) 0) _ _
-        (λ e.
-        let e5 = passed (not (mayAsk s q a c)) 3 (firstOf ((5, not (roleAllowed q (s .role))) ∷ afterRole q)) refl e .1 in
-        let e9 = passed (not (roleAllowed q (s .role))) 5 (firstOf (afterRole q)) refl e5 in
-        let e7 = passed (conflictOf p unseen q) 9 (firstOf (afterConflict q)) refl (e9 .1) .1 in
-        let e8 = passed (mismatchOf p unseen q) 7 (firstOf ((8, heldOf p q) ∷ (6, noPlace (At i) Nothing q) ∷ [])) refl e7 .0 in
-        ask-good s p role f (aidOf (At i)) unseen q c (not-false (roleAllowed q (s .role)) (e9 .0)) e8)
-        (λ e. f)
-      where
-        afterConflict : ℕ → List (ℕ × Bool)
-        afterConflict q = (7, mismatchOf p unseen q) ∷ (8, heldOf p q) ∷ (6, noPlace (At i) Nothing q) ∷ []
-
-        afterRole : ℕ → List (ℕ × Bool)
-        afterRole q = (9, conflictOf p unseen q) ∷ afterConflict q
-
-        -- a refusal that does not apply
-        passed : (b : Bool) (n m : ℕ) → eqb n 0 ≡ false → eqb (pick b n m) 0 ≡ true → (b ≡ false) × (eqb m 0 ≡ true)
-        passed true n m z e = absurd (true≢false (sym e ∙ z))
-        passed false n m z e = (refl, e)
-
-  set-fits : (role : s .role ≡ accessPoint) (t : List Record) (i : ℕ) (r : Record) → wellFormed s t ≡ true → recordFits s r ≡ true → r .address ≡ getD t i freeOf .address → wellFormed s (set t i r) ≡ true
-  unfolding wellFormed placeFits sparseOf
-  set-fits role t i r w f a =
-      rw (
-        and-left (settingsFit s) (allOf (placeFits s) t && (distinctOf (addressesOf t) && sparseOf s t)) w,
-        all-set (placeFits s) t i r (wf-fits s t w) (or-right (isFree r) (recordFits s r) f),
-        map-set-same addressOf t i r freeOf a,
-        wf-distinct s t w,
-        role,
-      )
-
-  record-fits : (t : List Record) (i : ℕ) → wellFormed s t ≡ true → i < length t → eqb (getD t i freeOf .address) 0 ≡ false → recordFits s (getD t i freeOf) ≡ true
-  unfolding placeFits isFree
-  record-fits t i w h z = rw z at (all-at (placeFits s) t i freeOf (wf-fits s t w) h)
-
   module _ (role : s .role ≡ accessPoint) where
     -- the law `acts`
     acts : (t : List Record) (e : Handed) (i : ℕ) → wellFormed s t ≡ true → i < length t → peerNamed s e ≡ some (addressOf (getD t i freeOf)) → happens s t e ≡ (set t i (next i (getD t i freeOf) e), said i (getD t i freeOf) e)
@@ -314,21 +268,26 @@ module _ (s : Settings) where
         go false b (frame xs) y = stays-frame role t w (e .out) xs b y
         go false b (primitive q a c) y = stays-primitive role t w (e .out) q a c b y
 
-    -- the law `keeps`
-    keeps : (t : List Record) (e : Handed) (i : ℕ) → wellFormed s t ≡ true → i < length t → peerNamed s e ≡ some (addressOf (getD t i freeOf)) → wellFormed s (happens s t e .0) ≡ true
-    keeps t e i w h k =
-        rw (acts t e i w h k)
-        (set-fits role t i (next i (getD t i freeOf) e) w (next-fits role i (getD t i freeOf) (record-fits t i w h (coming-some (e .coming) (getD t i freeOf .address) (named-long e (getD t i freeOf .address) k .1))) (e .coming)) (same-of i (getD t i freeOf) (e .coming)))
+    -- the law `keeps`: each step keeps the table well formed, and its 32 records
+    keeps : (t : List Record) (e : Handed) (i : ℕ) → Whole s t → i < length t → peerNamed s e ≡ some (addressOf (getD t i freeOf)) → Whole s (happens s t e .0)
+    unfolding happens
+    keeps t e i w h k = step-keeps s t (w .0) (w .1) (eventOf (e .coming)) (octetsOf (e .coming)) (length (e .out))
 
-    local : Local freeOf addressOf (peerNamed s) (λ t. wellFormed s t ≡ true) (happens s) next said alone
-    local = record { keeps = keeps; acts = acts; same = λ i p e. same-of i p (e .coming); stays = stays }
+    local : Local freeOf addressOf (peerNamed s) (Whole s) (happens s) next said alone
+    local =
+        record {
+          keeps = keeps;
+          acts = λ t e i w. acts t e i (w .0);
+          same = λ i p e. same-of i p (e .coming);
+          stays = λ t e w. stays t e (w .0);
+        }
 
 -- Demand 3, for every settings: "the end table is the same place for place, and every event gets the same answer and the same bytes".
 pub demand-3 : (s : Settings) → OrderFree s
 demand-3 s t l₁ l₂ to from role w named moved =
-    any-order freeOf addressOf (peerNamed s) (λ (u : List Record). wellFormed s u ≡ true) (happens s) (next s) (said s) (alone s) (local s role) t w l₁ l₂ to from moved named
+    any-order freeOf addressOf (peerNamed s) (Whole s) (happens s) (next s) (said s) (alone s) (local s role) t w l₁ l₂ to from moved named
 
 -- However else what an event names is read, so long as no less is named: more is then asked of the rearrangement, and the outcome is the same.
-pub demand-3-coarser : (s : Settings) (wide : Handed → Option ℕ) → ((e : Handed) (a : ℕ) → peerNamed s e ≡ some a → wide e ≡ some a) → (t : List Record) (l₁ l₂ : List Handed) (to from : ℕ → ℕ) → s .role ≡ accessPoint → wellFormed s t ≡ true → Named freeOf addressOf wide t l₁ → Moved wide l₁ l₂ to from → SameOutcome (happens s) t l₁ l₂ to
+pub demand-3-coarser : (s : Settings) (wide : Handed → Option ℕ) → ((e : Handed) (a : ℕ) → peerNamed s e ≡ some a → wide e ≡ some a) → (t : List Record) (l₁ l₂ : List Handed) (to from : ℕ → ℕ) → s .role ≡ accessPoint → Whole s t → Named freeOf addressOf wide t l₁ → Moved wide l₁ l₂ to from → SameOutcome (happens s) t l₁ l₂ to
 demand-3-coarser s wide h t l₁ l₂ to from role w named moved =
     demand-3 s t l₁ l₂ to from role w (λ k e a p q. named k e a p (h e a q)) (coarser (peerNamed s) wide h l₁ l₂ to from moved)

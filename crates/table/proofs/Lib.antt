@@ -8,11 +8,10 @@ pub mod RefusedExactly
 pub mod RefusedKeeps
 pub mod WrittenCount
 pub mod Timeouts
+pub mod StepKeeps
 pub mod AnyOrder
-pub mod ApKeeps
 pub mod OwnRecord
 pub mod DemandThree
 pub mod Allowed
 pub mod OrderExamples
-pub mod StepKeeps
 pub mod DiscardLeaves

@@ -134,7 +134,8 @@ at-work =
 
 -- The theorem at these events: table and all answers and bytes, whole.
 pub same-six : SameOutcome (happens asAp) both l₁ l₂ (λ k. getD there k 0)
+unfolding tableOf
 same-six =
-    demand-3 asAp both l₁ l₂ (λ k. getD there k 0) (λ k. getD back k 0) refl (at-work .well)
+    demand-3 asAp both l₁ l₂ (λ k. getD there k 0) (λ k. getD back k 0) refl (at-work .well, refl)
     (named-all freeOf addressOf (peerNamed asAp) both l₁ (at-work .known))
     (moved stray (peerNamed asAp) l₁ there back (at-work .kept))

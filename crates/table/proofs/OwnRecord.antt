@@ -7,7 +7,7 @@ use Prim.Native.Nat.{ℕ, zero, suc, _+_, _<_}
 use native.Mathlib.Nat.{not-suc-le-zero, le-of-suc-le-suc}
 use native.Mathlib.Omega.{arith}
 use mathlib.Core.Path.{_≡_, refl, sym, ap, _∙_}
-use mathlib.Core.Bool.{Bool, true, false, not, _&&_, _||_}
+use mathlib.Core.Bool.{Bool, true, false, not, _&&_, _||_, true≢false}
 use mathlib.Core.List.{List, [], _∷_}
 use lib.Dec.{eqb, ltb, leb}
 use lib.ListN.{length, getD, set, length-map, List·getD-map}
@@ -22,7 +22,7 @@ use Rattle.octets.specs.declared.heard.Kind.the-variants as kind
 use Rattle.octets.specs.declared.element.Comeback.{Comeback}
 use Rattle.peer.specs.Settings.{ap as accessPoint, settingsFit}
 use Rattle.peer.specs.Record.{freeOf, changedOf, sentOf, underWay, kindOf, isFree}
-use Rattle.peer.specs.Fit.{exchangeFits, holdFits, recordFits, placeFits}
+use Rattle.peer.specs.Fit.{exchangeFits, holdFits, placeFits, recordFits, sentFits}
 use Rattle.peer.specs.Turn.{turnOf, soleOf, endedOf, begunOf, repliedOf, stillOf}
 use Rattle.peer.specs.Filter.{passesOf}
 use Rattle.peer.specs.Authentication.{requestedOf, authenticationAtAp, authenticationAtStation, authenticationHeard}
@@ -40,7 +40,15 @@ use Rattle.table.specs.Places.{firstFrom, allTails, allOf, addressesOf, 
 use Rattle.table.specs.Fit.{apart, aloneIn, distinctOf, sparseOf, wellFormed}
 use Rattle.table.specs.Order.{addressOf}
 use Rattle.table.specs.declared.places.Found.the-variants.{At}
-use Rattle.table.proofs.ApKeeps.{and-left, and-right, either, sent-fits}
+use Rattle.table.proofs.Both.{and-left, and-right, either}
+
+-- at an access point no exchange is sent
+pub sent-fits : (e : Exchange) (role state left : ℕ) → role ≡ accessPoint → exchangeFits e role state left ≡ true → sentOf e ≡ 0
+unfolding sentFits
+sent-fits None role state left r h = refl
+sent-fits (Asked k) role state left r h = refl
+sent-fits (Awaiting k) role state left r h = refl
+sent-fits (Sent k) role state left r h = absurd (true≢false (sym (rw r at h)))
 
 -- a place in a list whose every element passes a test
 pub all-at : {A : Type 0} (f : A → Bool) (t : List A) (i : ℕ) (d : A) → allOf f t ≡ true → i < length t → f (getD t i d) ≡ true

@@ -125,13 +125,17 @@ peerNamed s e = pick (ltb (length (e .out)) longest) none (comingPeer s (e .comi
 abbrev pub addressOf : Record → ℕ
 addressOf p = p .address
 
+-- A well-formed table of 32 records.
+abbrev pub Whole : Settings → List Record → Type 0
+Whole s t = (wellFormed s t ≡ true) × (length t ≡ 32)
+
 -- Demand 3: "At an access point, take fixed settings, a well-formed table and a list of events without clock steps, each handed a buffer of its
 -- own, where every peer named already has a record. Move the events about .. the end table is the same place for place, and every event gets
--- the same answer and the same bytes." (That there are 32 records is the table's type; it holds for any number.)
+-- the same answer and the same bytes."
 abbrev pub OrderFree : Settings → Type 0
 OrderFree s =
     (t : List Record) (l₁ l₂ : List Handed) (to from : ℕ → ℕ)
-    → s .role ≡ ap → wellFormed s t ≡ true
+    → s .role ≡ ap → Whole s t
     → Named freeOf addressOf (peerNamed s) t l₁
     → Moved (peerNamed s) l₁ l₂ to from
     → SameOutcome (happens s) t l₁ l₂ to

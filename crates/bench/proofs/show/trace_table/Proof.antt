@@ -1,12 +1,12 @@
--- `bench::run::trace_table` meets its contract: the buffer keeps its length, and every place is one of 32.
+-- `bench::show::trace_table` meets its contract: the buffer keeps its length, and every place is one of 32.
 -- Assumes nothing.
 use Prim.Native.Nat.{_-_, _≤_}
 use Rattle.octets.proofs.Table.{at}
 use borrow.Author.Needs.{needs}
 use lib.ListN.{length}
 use mathlib.Core.Path.{_≡_}
-use Rattle.bench.proofs.run.trace_table.Statement.{statement}
-use Rattle.bench.proofs.run.trace_table.Tie as tie
+use Rattle.bench.proofs.show.trace_table.Statement.{statement}
+use Rattle.bench.proofs.show.trace_table.Tie as tie
 
 abbrev Inv-loop : tie.InvT-loop
 Inv-loop output₀ out t at₀ i₀ output at i = (i ≤ 32) × (length t ≡ 32) × (length output ≡ length output₀)

@@ -1,12 +1,12 @@
--- `bench::run::trace_octets` meets its contract: each part stays within its buffer.
+-- `bench::show::trace_octets` meets its contract: each part stays within its buffer.
 -- Assumes nothing.
 use mathlib.Core.Path.{_≡_, sym}
 use native.Mathlib.Omega.{arith}
 use lib.ListN.{length}
 use lib.Seq.{length-take-le}
 use borrow.Author.Needs.{needs}
-use Rattle.bench.proofs.run.trace_octets.Statement.{statement}
-use Rattle.bench.proofs.run.trace_octets.Tie as tie
+use Rattle.bench.proofs.show.trace_octets.Statement.{statement}
+use Rattle.bench.proofs.show.trace_octets.Tie as tie
 
 returns : tie.Need-returns
 returns c = search needs
