@@ -14,6 +14,7 @@ use lib.Seq.{drop-cons, drop-drop}
 use Rattle.octets.specs.Pick.{pick}
 use Rattle.octets.specs.Field.{field}
 use Rattle.octets.specs.Element.{walk, wantedAt}
+use Rattle.octets.proofs.Branch.{and-left, and-right}
 use Rattle.octets.specs.declared.element.Comeback.the-variants.{Given, Absent}
 
 -- The first two octets from a position, and the rest.
@@ -60,14 +61,6 @@ module _ (s : List ℕ) (at : ℕ) where
       let p = two s at (omega arith) in
       rw (p, walk-cons, fits h, rw p at t, walk-skip (drop (at + 2) s) (getD s (at + 1) 0), drop-drop)
 
-right-true : (a b : Bool) → (a && b) ≡ true → b ≡ true
-right-true true b e = e
-right-true false b e = cc
-
-left-true : (a b : Bool) → (a && b) ≡ true → a ≡ true
-left-true true b e = refl
-left-true false b e = e
-
 -- A wanted element has length 5.
 pub wanted-five : (xs : List ℕ) (n : ℕ) → wantedAt xs n ≡ true → n ≡ 5
-wanted-five xs n t = eqb-true n 5 (left-true (eqb n 5) (eqb (getD xs 2 0) 3) (right-true (eqb (getD xs 0 0) 56) (eqb n 5 && eqb (getD xs 2 0) 3) t))
+wanted-five xs n t = eqb-true n 5 (and-left (eqb n 5) (eqb (getD xs 2 0) 3) (and-right (eqb (getD xs 0 0) 56) (eqb n 5 && eqb (getD xs 2 0) 3) t))

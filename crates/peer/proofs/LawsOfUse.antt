@@ -8,7 +8,7 @@ use native.Mathlib.Omega.{arith}
 use lib.Dec.{ltb, leb, eqb}
 use borrow.Author.Tests.{ltb-true, ltb-false, eqb-true, eqb-false, eq-eqb}
 use Rattle.octets.specs.Pick.{pick}
-use Rattle.octets.proofs.Branch.{by-bool}
+use Rattle.octets.proofs.Branch.{by-bool, pick-both, pick-by}
 use Rattle.octets.specs.declared.class.FrameClass.{FrameClass}
 use Rattle.octets.specs.declared.element.Comeback.{Comeback}
 use Rattle.octets.specs.declared.element.Comeback.the-variants.{Given}
@@ -32,15 +32,6 @@ use Rattle.peer.specs.declared.refuse.Others.{Others}
 use Rattle.peer.specs.declared.moves.Move.the-variants as move
 use Rattle.peer.specs.declared.reply.Reply.the-variants.{Silent}
 use Rattle.peer.specs.declared.turn.Turn.{Turn}
-
--- What holds of both choices holds of the choice.
-pick-both : {A : Type 0} (P : A → Type 0) (b : Bool) {x y : A} → P x → P y → P (pick b x y)
-pick-both P true px py = px
-pick-both P false px py = py
-
-pick-by : {A : Type 0} (P : A → Type 0) (b : Bool) {x y : A} → (b ≡ true → P x) → (b ≡ false → P y) → P (pick b x y)
-pick-by P true px py = px refl
-pick-by P false px py = py refl
 
 -- ---- Holds
 

@@ -13,6 +13,7 @@ use lib.Dec.{eqb, ltb, leb}
 use lib.ListN.{length, getD, set}
 use lib.Seq.{set-getD}
 use borrow.Author.Tests.{not-true}
+use Rattle.octets.proofs.Branch.{and-left, and-right, pick-both}
 use Rattle.octets.specs.Pick.{pick}
 use Rattle.octets.specs.Address.{validOf}
 use Rattle.octets.specs.Field.{field}
@@ -48,7 +49,6 @@ use Rattle.table.specs.declared.answer.Answer.{Answer}
 use Rattle.table.specs.declared.answer.Met.{Met}
 use Rattle.table.proofs.AnyOrder.{any-order, coarser}
 use Rattle.table.proofs.OwnRecord.{all-at, find-at, wf-distinct, wf-fits, Alone, hear-kept, ask-kept, hear-alone, ask-alone}
-use Rattle.table.proofs.Both.{and-left, and-right, either}
 use Rattle.table.proofs.StepKeeps.{step-keeps}
 
 -- what an event comes to: at a peer's place and record; and where it names none
@@ -113,7 +113,7 @@ module _ (s : Settings) where
   same-of : (i : ℕ) (p : Record) (c : Coming) → nextOf i p c .address ≡ p .address
   same-of i p (frame xs) = same-read p (readOf (s .own) xs)
   same-of i p (primitive q a c) =
-      either (λ (x : Record). x .address ≡ p .address) (eqb (refusal i p q a c) 0) _ _ (ask-kept s p (aidOf (At i)) unseen q c) refl
+      pick-both (λ (x : Record). x .address ≡ p .address) (eqb (refusal i p q a c) 0) (ask-kept s p (aidOf (At i)) unseen q c) refl
 
   -- the peer that an event names is valid, so its address is not 0
   valid-some : (a : ℕ) → validOf a ≡ true → eqb a 0 ≡ false

@@ -9,7 +9,7 @@ use lib.Dec.{eqb, ltb}
 use lib.ListN.{set, getD}
 use Rattle.octets.specs.Pick.{pick}
 use Rattle.octets.specs.Frame.{longest}
-use Rattle.octets.proofs.Branch.{by-bool}
+use Rattle.octets.proofs.Branch.{pick-both}
 use Rattle.octets.specs.declared.class.FrameClass.{FrameClass}
 use Rattle.octets.specs.declared.heard.Heard.{Heard}
 use Rattle.peer.specs.Record.{freshOf, freeOf, underWay}
@@ -74,16 +74,12 @@ read-leaves s t Discarded v = refl
 read-leaves s t Admitted v = refl
 read-leaves s t (From a g k h) v = from-leaves s t k g h a v
 
-choice : {A : Type 0} (P : A → Type 0) (b : Bool) {x y : A} → P x → P y → P (pick b x y)
-choice P true px py = px
-choice P false px py = py
-
 -- "discard": whatever the frame, the table and the buffer, where the verdict is discard the table is the one that came in.
 pub discard-leaves : (s : Settings) (t : List Record) (xs : List ℕ) (n : ℕ) → receivedOf s t xs n .answer .verdict ≡ 2 → receivedOf s t xs n .table ≡ t
 unfolding Leaves receivedOf refusedOf settledOf
 discard-leaves s t xs n =
-    choice (Leaves t) (ltb n longest) (λ v. refl)
-    (choice (Leaves t) (not (wellFormed s t)) (λ v. refl) (read-leaves s t (readOf (s .own) xs)))
+    pick-both (Leaves t) (ltb n longest) (λ v. refl)
+    (pick-both (Leaves t) (not (wellFormed s t)) (λ v. refl) (read-leaves s t (readOf (s .own) xs)))
 
 -- "CTS and ACK: admit, done, no peer": a frame without Address 2 leaves the table.
 pub bare-leaves : (s : Settings) (t : List Record) (xs : List ℕ) (n : ℕ) → readOf (s .own) xs ≡ Admitted → receivedOf s t xs n .table ≡ t

@@ -2,7 +2,6 @@ pub mod Loops
 pub mod Lists
 pub mod Ticks
 pub mod MarkedCases
-pub mod Both
 pub mod Gives
 pub mod RefusedExactly
 pub mod RefusedKeeps

@@ -12,6 +12,7 @@ use mathlib.Core.List.{List, [], _∷_}
 use lib.Dec.{eqb, ltb, leb}
 use lib.ListN.{length, getD, set, length-map, List·getD-map}
 use borrow.Author.Tests.{eqb-true, eqb-false, eq-eqb, not-true}
+use Rattle.octets.proofs.Branch.{and-left, and-right, pick-both}
 use Rattle.octets.specs.Pick.{pick}
 use Rattle.octets.specs.Address.{validOf}
 use Rattle.octets.specs.declared.class.FrameClass.{FrameClass}
@@ -40,7 +41,6 @@ use Rattle.table.specs.Places.{firstFrom, allTails, allOf, addressesOf, 
 use Rattle.table.specs.Fit.{apart, aloneIn, distinctOf, sparseOf, wellFormed}
 use Rattle.table.specs.Order.{addressOf}
 use Rattle.table.specs.declared.places.Found.the-variants.{At}
-use Rattle.table.proofs.Both.{and-left, and-right, either}
 
 -- at an access point no exchange is sent
 pub sent-fits : (e : Exchange) (role state left : ℕ) → role ≡ accessPoint → exchangeFits e role state left ≡ true → sentOf e ≡ 0
@@ -109,35 +109,35 @@ module _ (s : Settings) (p : Record) where
   unfolding stillOf repliedOf turnOf soleOf begunOf endedOf changedOf authenticationHeard authenticationAtAp authenticationAtStation requestedOf deauthenticationHeard disassociationHeard requestHeard responseHeard acceptedOf rejectedOf
   act-kept heard.Other = refl
   act-kept (heard.Authentication algorithm transaction status) =
-      either (Kept p) (eqb (s .role) accessPoint) _ _
-      (either (Kept p) (eqb transaction 1) _ _ (either (Kept p) (eqb algorithm 0) _ _ refl refl) refl)
-      (either (Kept p) (eqb algorithm 0 && (eqb transaction 2 && eqb (sentOf (p .exchange)) 1)) _ _ refl refl)
-  act-kept (heard.Deauthentication reason) = either (Kept p) (ltb (p .state) 2) _ _ refl refl
-  act-kept (heard.Disassociation reason) = either (Kept p) (ltb (p .state) 3) _ _ refl refl
-  act-kept (heard.Request k current) = either (Kept p) (eqb (s .role) accessPoint) _ _ refl refl
+      pick-both (Kept p) (eqb (s .role) accessPoint)
+      (pick-both (Kept p) (eqb transaction 1) (pick-both (Kept p) (eqb algorithm 0) refl refl) refl)
+      (pick-both (Kept p) (eqb algorithm 0 && (eqb transaction 2 && eqb (sentOf (p .exchange)) 1)) refl refl)
+  act-kept (heard.Deauthentication reason) = pick-both (Kept p) (ltb (p .state) 2) refl refl
+  act-kept (heard.Disassociation reason) = pick-both (Kept p) (ltb (p .state) 3) refl refl
+  act-kept (heard.Request k current) = pick-both (Kept p) (eqb (s .role) accessPoint) refl refl
   act-kept (heard.Response k status aid c) =
-      either (Kept p) (eqb (sentOf (p .exchange)) (kindOf k)) _ _
-      (either (Kept p) (eqb status 0) _ _ (either (Kept p) (eqb aid 0 || ltb 2007 aid) _ _ refl refl) refl)
+      pick-both (Kept p) (eqb (sentOf (p .exchange)) (kindOf k))
+      (pick-both (Kept p) (eqb status 0) (pick-both (Kept p) (eqb aid 0 || ltb 2007 aid) refl refl) refl)
       refl
 
   pub hear-kept : (k : FrameClass) (group : Bool) (h : Heard) → Kept p (hearOf s p k group h)
   unfolding hearOf groupHeard stillOf repliedOf turnOf
   hear-kept k group h =
-      either (Kept p) (not (passesOf k (p .state))) _ _ refl
-      (either (Kept p) group _ _ (either (Kept p) (isExchange h) _ _ refl (act-kept h)) (act-kept h))
+      pick-both (Kept p) (not (passesOf k (p .state))) refl
+      (pick-both (Kept p) group (pick-both (Kept p) (isExchange h) refl (act-kept h)) (act-kept h))
 
   pub ask-kept : (aid : ℕ) (o : Others) (q c : ℕ) → Kept p (askOf s aid p o q c)
   unfolding askOf startedOf answerOf deauthenticateOf associateOf reassociateOf failedOf disassociateOf respondOf awaitedOf declinedOf secureOf reportOf turnOf begunOf endedOf changedOf
   ask-kept aid o q c =
-      either (Kept p) (eqb q 1) _ _ refl
-      (either (Kept p) (eqb q 2) _ _ refl
-      (either (Kept p) (eqb q 3) _ _ refl
-      (either (Kept p) (eqb q 4) _ _ (either (Kept p) (eqb (p .state) 1) _ _ refl refl)
-      (either (Kept p) (eqb q 5) _ _ (either (Kept p) (eqb (o .associated) 0 || eqb (p .state) 1) _ _ refl refl)
-      (either (Kept p) (eqb q 6) _ _ (either (Kept p) (ltb (p .state) 3) _ _ refl refl)
-      (either (Kept p) (eqb q 7) _ _ (either (Kept p) (eqb c 0) _ _ refl refl)
-      (either (Kept p) (eqb q 8) _ _ (either (Kept p) (eqb c 0) _ _ refl refl)
-      (either (Kept p) (eqb q 9) _ _ refl refl))))))))
+      pick-both (Kept p) (eqb q 1) refl
+      (pick-both (Kept p) (eqb q 2) refl
+      (pick-both (Kept p) (eqb q 3) refl
+      (pick-both (Kept p) (eqb q 4) (pick-both (Kept p) (eqb (p .state) 1) refl refl)
+      (pick-both (Kept p) (eqb q 5) (pick-both (Kept p) (eqb (o .associated) 0 || eqb (p .state) 1) refl refl)
+      (pick-both (Kept p) (eqb q 6) (pick-both (Kept p) (ltb (p .state) 3) refl refl)
+      (pick-both (Kept p) (eqb q 7) (pick-both (Kept p) (eqb c 0) refl refl)
+      (pick-both (Kept p) (eqb q 8) (pick-both (Kept p) (eqb c 0) refl refl)
+      (pick-both (Kept p) (eqb q 9) refl refl))))))))
 
 -- no rule touches another record: at an access point no exchange is sent
 abbrev pub Alone : Turn → Type 0
@@ -189,29 +189,29 @@ module _ (s : Settings) (p : Record) (r : s .role ≡ accessPoint) (w : placeFit
   unfolding stillOf repliedOf turnOf authenticationHeard authenticationAtAp authenticationAtStation requestedOf deauthenticationHeard disassociationHeard requestHeard
   act-alone heard.Other = refl
   act-alone (heard.Authentication algorithm transaction status) =
-      either Alone (eqb (s .role) accessPoint) _ _
-      (either Alone (eqb transaction 1) _ _ (either Alone (eqb algorithm 0) _ _ refl refl) refl)
-      (either Alone (eqb algorithm 0 && (eqb transaction 2 && eqb (sentOf (p .exchange)) 1)) _ _ refl refl)
-  act-alone (heard.Deauthentication reason) = either Alone (ltb (p .state) 2) _ _ refl refl
-  act-alone (heard.Disassociation reason) = either Alone (ltb (p .state) 3) _ _ refl refl
-  act-alone (heard.Request k current) = either Alone (eqb (s .role) accessPoint) _ _ refl refl
+      pick-both Alone (eqb (s .role) accessPoint)
+      (pick-both Alone (eqb transaction 1) (pick-both Alone (eqb algorithm 0) refl refl) refl)
+      (pick-both Alone (eqb algorithm 0 && (eqb transaction 2 && eqb (sentOf (p .exchange)) 1)) refl refl)
+  act-alone (heard.Deauthentication reason) = pick-both Alone (ltb (p .state) 2) refl refl
+  act-alone (heard.Disassociation reason) = pick-both Alone (ltb (p .state) 3) refl refl
+  act-alone (heard.Request k current) = pick-both Alone (eqb (s .role) accessPoint) refl refl
   act-alone (heard.Response k status aid c) = response-alone k status aid c
 
   pub hear-alone : (k : FrameClass) (group : Bool) (h : Heard) → Alone (hearOf s p k group h)
   unfolding hearOf groupHeard stillOf repliedOf turnOf
   hear-alone k group h =
-      either Alone (not (passesOf k (p .state))) _ _ refl
-      (either Alone group _ _ (either Alone (isExchange h) _ _ refl (act-alone h)) (act-alone h))
+      pick-both Alone (not (passesOf k (p .state))) refl
+      (pick-both Alone group (pick-both Alone (isExchange h) refl (act-alone h)) (act-alone h))
 
 pub ask-alone : (s : Settings) (aid : ℕ) (p : Record) (o : Others) (q c : ℕ) → Alone (askOf s aid p o q c)
 unfolding askOf startedOf answerOf deauthenticateOf associateOf reassociateOf failedOf disassociateOf respondOf awaitedOf declinedOf secureOf reportOf turnOf
 ask-alone s aid p o q c =
-    either Alone (eqb q 1) _ _ refl
-    (either Alone (eqb q 2) _ _ refl
-    (either Alone (eqb q 3) _ _ refl
-    (either Alone (eqb q 4) _ _ (either Alone (eqb (p .state) 1) _ _ refl refl)
-    (either Alone (eqb q 5) _ _ (either Alone (eqb (o .associated) 0 || eqb (p .state) 1) _ _ refl refl)
-    (either Alone (eqb q 6) _ _ (either Alone (ltb (p .state) 3) _ _ refl refl)
-    (either Alone (eqb q 7) _ _ (either Alone (eqb c 0) _ _ refl refl)
-    (either Alone (eqb q 8) _ _ (either Alone (eqb c 0) _ _ refl refl)
-    (either Alone (eqb q 9) _ _ refl refl))))))))
+    pick-both Alone (eqb q 1) refl
+    (pick-both Alone (eqb q 2) refl
+    (pick-both Alone (eqb q 3) refl
+    (pick-both Alone (eqb q 4) (pick-both Alone (eqb (p .state) 1) refl refl)
+    (pick-both Alone (eqb q 5) (pick-both Alone (eqb (o .associated) 0 || eqb (p .state) 1) refl refl)
+    (pick-both Alone (eqb q 6) (pick-both Alone (ltb (p .state) 3) refl refl)
+    (pick-both Alone (eqb q 7) (pick-both Alone (eqb c 0) refl refl)
+    (pick-both Alone (eqb q 8) (pick-both Alone (eqb c 0) refl refl)
+    (pick-both Alone (eqb q 9) refl refl))))))))

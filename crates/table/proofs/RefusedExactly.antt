@@ -7,7 +7,7 @@ use mathlib.Core.List.{List, [], _∷_, _++_}
 use native.Mathlib.Omega.{arith}
 use lib.Dec.{leb, eqb, eqb·suc-zero}
 use borrow.Author.Tests.{eqb-true, leb-true}
-use Rattle.octets.proofs.Branch.{by-bool}
+use Rattle.octets.proofs.Branch.{and-left, and-right, by-bool}
 use Rattle.peer.specs.declared.settings.Settings.{Settings}
 use Rattle.peer.specs.declared.record.Record.{Record}
 use Rattle.table.specs.Places.{allTails, allOf}
@@ -17,7 +17,6 @@ use Rattle.table.specs.Receive.{receivedOf}
 use Rattle.table.specs.Ask.{askedOf}
 use Rattle.table.specs.Pass.{passRefusals, passedOf}
 use Rattle.table.specs.Step.{stepOf}
-use Rattle.table.proofs.Both.{and-left, and-right}
 use Rattle.table.proofs.Gives.{Gives, refuses, acts, received-gives, asked-gives}
 use Rattle.table.specs.Exactly.{NoneHolds, First, Exactly, frameRefusals, askRefusals, refusalsOf}
 use Rattle.table.specs.declared.answer.Met.{Met}

@@ -12,7 +12,7 @@ use Rattle.octets.specs.Pick.{pick}
 use Rattle.octets.specs.Address.{validOf}
 use Rattle.octets.specs.declared.heard.Kind.{Kind}
 use Rattle.octets.specs.declared.heard.Kind.the-variants as kind
-use Rattle.octets.proofs.Branch.{by-bool}
+use Rattle.octets.proofs.Branch.{and-left, and-right, by-bool}
 use Rattle.peer.specs.Settings.{settingsFit}
 use Rattle.peer.specs.Record.{kindOf, underWay, isFree}
 use Rattle.peer.specs.Fit.{exchangeFits, holdFits, recordFits, placeFits}
@@ -31,7 +31,6 @@ use Rattle.table.specs.Written.{timesOut}
 use Rattle.table.specs.declared.step.Event.the-variants as event
 use Rattle.table.proofs.Ticks.{report-length}
 use Rattle.table.proofs.RefusedExactly.{refused-exactly, refusal-first}
-use Rattle.table.proofs.Both.{and-left, and-right}
 
 some-kind : (k : Kind) → eqb (kindOf k) 0 ≡ false
 some-kind kind.Authentication = refl

@@ -12,7 +12,7 @@ use lib.ListN.{length, drop, length-append, length-drop}
 use lib.Seq.{sets, sets-eq, take-append-seam, drop-append-seam}
 use borrow.Author.Tests.{ltb-false, not-true, eqb-true}
 use Rattle.octets.specs.Frame.{longest, bytesOf, writtenOf, lengthOf}
-use Rattle.octets.proofs.Branch.{by-bool}
+use Rattle.octets.proofs.Branch.{and-left, by-bool}
 use Rattle.octets.proofs.Lengths.{bytes-length, body-short}
 use Rattle.peer.specs.Tick.{tickOf}
 use Rattle.peer.specs.declared.settings.Settings.{Settings}
@@ -30,7 +30,6 @@ use Rattle.table.specs.Exactly.{NoneHolds}
 use Rattle.table.specs.Written.{replyBytes, stepBytes, mostOf, Written}
 use Rattle.table.specs.declared.step.Event.{Event}
 use Rattle.table.specs.declared.step.Event.the-variants as event
-use Rattle.table.proofs.Both.{and-left}
 use Rattle.table.proofs.Ticks.{report-short}
 use Rattle.table.proofs.RefusedExactly.{refused-exactly, refusal-first}
 
