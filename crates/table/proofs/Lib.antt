@@ -14,3 +14,8 @@ pub mod DemandThree
 pub mod Allowed
 pub mod OrderExamples
 pub mod DiscardLeaves
+pub mod ArrayField
+pub mod Copied
+pub mod Guards
+pub mod LocalArray
+pub mod Shared

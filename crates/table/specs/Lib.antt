@@ -9,6 +9,7 @@ pub mod Receive
 pub mod Ask
 pub mod Pass
 pub mod Step
+pub mod Lent
 pub mod Marked
 pub mod Exactly
 pub mod Written

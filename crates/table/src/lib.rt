@@ -3,6 +3,7 @@ pub mod answer;
 pub mod ask;
 pub mod distinct;
 pub mod fit;
+pub mod lent;
 pub mod others;
 pub mod pass;
 pub mod places;
