@@ -5,3 +5,4 @@ pub mod Walk
 pub mod Stores
 pub mod Lengths
 pub mod RoundTrip
+pub mod RowTrip

@@ -8,5 +8,6 @@ pub mod Shape
 pub mod Stored
 pub mod Frame
 pub mod Report
+pub mod Row
 pub mod Read
 pub mod Examples

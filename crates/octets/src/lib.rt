@@ -7,4 +7,5 @@ pub mod frame;
 pub mod heard;
 mod put;
 pub mod report;
+pub mod row;
 pub mod shape;

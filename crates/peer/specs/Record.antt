@@ -3,6 +3,7 @@
 use Prim.Native.Nat.{ℕ, _+_}
 use mathlib.Core.Bool.{Bool, _&&_, false, true}
 use lib.Dec.{eqb, leb}
+use Rattle.octets.specs.Pick.{pick}
 use Rattle.octets.specs.declared.heard.Kind.the-variants.{Association, Authentication, Reassociation}
 use Rattle.octets.specs.declared.heard.Kind.{Kind}
 use Rattle.peer.specs.declared.record.Exchange.the-variants.{Asked, Awaiting, None, Sent}
@@ -46,6 +47,19 @@ exchangeNumber None = 0
 exchangeNumber (Asked k) = kindOf k
 exchangeNumber (Awaiting k) = 3 + kindOf k
 exchangeNumber (Sent k) = 6 + kindOf k
+
+-- The exchange of a number, and none where it is no exchange's.
+unfoldable pub exchangeOf : ℕ → Exchange
+exchangeOf n =
+    pick (eqb n 1) (Asked Authentication)
+    (pick (eqb n 2) (Asked Association)
+    (pick (eqb n 3) (Asked Reassociation)
+    (pick (eqb n 4) (Awaiting Authentication)
+    (pick (eqb n 5) (Awaiting Association)
+    (pick (eqb n 6) (Awaiting Reassociation)
+    (pick (eqb n 7) (Sent Authentication)
+    (pick (eqb n 8) (Sent Association)
+    (pick (eqb n 9) (Sent Reassociation) None))))))))
 
 abbrev pub isAssociating : Kind → Bool
 isAssociating Authentication = false

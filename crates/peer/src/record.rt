@@ -1,7 +1,7 @@
 // A peer's record: its address, its state, the exchange under way and the times left.
 use octets::heard::Kind;
 ghost use mathlib.Core.Path.{_≡_};
-ghost use Rattle.peer.specs.Record.{askedOf, associates, awaitingOf, changedOf, exchangeNumber, freeOf, freshOf, isAssociating, isFree, isJoined, kindOf, sentOf, underWay};
+ghost use Rattle.peer.specs.Record.{askedOf, associates, awaitingOf, changedOf, exchangeNumber, exchangeOf, freeOf, freshOf, isAssociating, isFree, isJoined, kindOf, sentOf, underWay};
 
 // The exchange under way.
 pub enum Exchange {
@@ -99,6 +99,24 @@ pub fn exchange_number(e: Exchange) -> u8
             Kind::Association => 8,
             Kind::Reassociation => 9,
         },
+    }
+}
+
+// The exchange of a number; none where it is no exchange's.
+pub fn exchange_of(number: u8) -> Exchange
+    ensures { λ r. ⌜ r ≡ exchangeOf number ⌝ }
+{
+    match number {
+        1 => Exchange::Asked(Kind::Authentication),
+        2 => Exchange::Asked(Kind::Association),
+        3 => Exchange::Asked(Kind::Reassociation),
+        4 => Exchange::Awaiting(Kind::Authentication),
+        5 => Exchange::Awaiting(Kind::Association),
+        6 => Exchange::Awaiting(Kind::Reassociation),
+        7 => Exchange::Sent(Kind::Authentication),
+        8 => Exchange::Sent(Kind::Association),
+        9 => Exchange::Sent(Kind::Reassociation),
+        _ => Exchange::None,
     }
 }
 

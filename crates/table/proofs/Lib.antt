@@ -19,3 +19,7 @@ pub mod Copied
 pub mod Guards
 pub mod LocalArray
 pub mod Shared
+pub mod RowLaws
+pub mod RowStores
+pub mod Views
+pub mod Marks

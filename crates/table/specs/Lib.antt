@@ -10,6 +10,7 @@ pub mod Ask
 pub mod Pass
 pub mod Step
 pub mod Lent
+pub mod Rows
 pub mod Marked
 pub mod Exactly
 pub mod Written

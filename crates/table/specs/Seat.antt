@@ -14,6 +14,16 @@ use Rattle.table.specs.Places.{onFound}
 use Rattle.table.specs.Answer.{turnAnswer}
 use Rattle.table.specs.declared.places.Found.{Found}
 use Rattle.table.specs.declared.answer.Met.{Met}
+use Rattle.table.specs.declared.seat.Change.{Change}
+
+-- A table with a change: a record stored at a place, after every record in State 3 or 4 was put to State 2 where it is so.
+unfoldable pub metOf : List Record → Change → Met
+metOf t c =
+    record {
+      table = onFound (c .place) t (λ i. set (pick (c .sole) (map partedOf t) t) i (c .peer));
+      answer = c .answer;
+      reply = c .reply;
+    }
 
 -- The record of a peer, by the place where its address was found; a fresh one where it has none.
 abbrev pub peerOf : List Record → Found → ℕ → Record

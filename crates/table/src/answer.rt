@@ -3,7 +3,7 @@ use peer::record::Record;
 use peer::reply::Reply;
 use peer::turn::Turn;
 ghost use mathlib.Core.Path.{_≡_};
-ghost use Rattle.table.specs.Answer.{refusalAnswer, verdictAnswer, turnAnswer, countAnswer, refusedOf, settledOf};
+ghost use Rattle.table.specs.Answer.{refusalAnswer, verdictAnswer, turnAnswer, countAnswer};
 
 #[repr(C)]
 pub struct Answer {
@@ -100,21 +100,4 @@ impl Answer {
             state: self.state,
         }
     }
-}
-
-// The table stays, and nothing is said.
-pub fn settled(t: [Record; 32], answer: Answer) -> Met
-    ensures { λ r. ⌜ r ≡ settledOf t answer ⌝ }
-{
-    Met {
-        table: t,
-        answer,
-        reply: Reply::Silent,
-    }
-}
-
-pub fn refused(t: [Record; 32], number: u8) -> Met
-    ensures { λ r. ⌜ r ≡ refusedOf t number ⌝ }
-{
-    settled(t, Answer::refusal(number))
 }

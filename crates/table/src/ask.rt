@@ -1,13 +1,15 @@
 // A primitive from our own side.
-use crate::answer::Met;
 use crate::answer::Stepped;
-use crate::answer::refused;
-use crate::fit::check;
+use crate::fit::survey;
+use crate::fit::well;
 use crate::others::others;
 use crate::places::Found;
 use crate::places::find;
+use crate::seat::Change;
 use crate::seat::finish;
+use crate::seat::met;
 use crate::seat::peer_at;
+use crate::seat::refused;
 use crate::seat::turn_in;
 use octets::address::valid;
 use octets::frame::Frame;
@@ -20,11 +22,15 @@ use peer::refuse::mismatch;
 use peer::refuse::role_allowed;
 use peer::settings::Settings;
 ghost use mathlib.Core.Path.{_≡_};
+ghost use mathlib.Core.List.{List};
 ghost use lib.ListN.{length};
+ghost use Rattle.peer.specs.Ask.{askOf};
+ghost use Rattle.peer.specs.declared.record.Record.{Record as Peer};
+ghost use Rattle.table.specs.Places.{findOf};
 ghost use Rattle.table.specs.Answer.{saidIn, steppedOf};
-ghost use Rattle.table.specs.Seat.{aidOf};
-ghost use Rattle.table.specs.Refusals.{firstOf};
-ghost use Rattle.table.specs.Ask.{mayAsk, noPlace, refusalsAt, askedAt, askedOf};
+ghost use Rattle.table.specs.Seat.{aidOf, metOf, turnIn};
+ghost use Rattle.table.specs.Refusals.{firstOf, unless};
+ghost use Rattle.table.specs.Ask.{mayAsk, noPlace, refusalsAt, askedOf};
 
 // Whether number, address and code may be asked at all: else refusal 3.
 fn may_ask(s: Settings, primitive: u8, address: u64, code: u16) -> bool
@@ -40,15 +46,15 @@ fn may_ask(s: Settings, primitive: u8, address: u64, code: u16) -> bool
 }
 
 // Whether a new record is needed and no place is free: refusal 6.
-fn no_place(at: Found, free: Found, primitive: u8) -> bool
-    ensures { λ r. ⌜ r ≡ noPlace at free primitive ⌝ }
+fn no_place(addresses: &[u64], at: Found, primitive: u8) -> bool
+    ensures { λ r. ⌜ r ≡ noPlace at (findOf (now (addresses .entry)) 0) primitive ⌝ }
 {
     if primitive != 1 {
         return false;
     }
     match at {
         Found::At(_) => false,
-        Found::Nothing => match free {
+        Found::Nothing => match find(addresses, 0) {
             Found::At(_) => false,
             Found::Nothing => true,
         },
@@ -68,15 +74,15 @@ fn aid(at: Found) -> u16
 // The first refusal that applies, of those after 1 and 2; 0 where none does.
 fn refusal(
     s: Settings,
+    addresses: &[u64],
+    at: Found,
     p: Record,
     o: Others,
-    at: Found,
-    free: Found,
     primitive: u8,
     address: u64,
     code: u16,
 ) -> u8
-    ensures { λ r. ⌜ r ≡ firstOf (refusalsAt s p o at free primitive address code) ⌝ }
+    ensures { λ r. ⌜ r ≡ firstOf (refusalsAt s p o at (findOf (now (addresses .entry)) 0) primitive address code) ⌝ }
 {
     if may_ask(s, primitive, address, code) {} else {
         return 3;
@@ -93,48 +99,64 @@ fn refusal(
     if held(p, primitive) {
         return 8;
     }
-    if no_place(at, free, primitive) {
+    if no_place(addresses, at, primitive) {
         return 6;
     }
     0
 }
 
-// A primitive in a well-formed table with these addresses.
-fn asked_at(
+// A primitive to a peer that was found at a place, or nowhere, in a table with these addresses.
+pub(crate) fn asked_at(
     s: Settings,
-    t: [Record; 32],
     addresses: &[u64],
+    at: Found,
+    p: Record,
+    o: Others,
     primitive: u8,
     address: u64,
     code: u16,
-) -> Met
-    ensures { λ m. ⌜ m ≡ askedAt s t (now (addresses .entry)) primitive address code ⌝ }
+) -> Change
+    ensures { λ r. ⌜ ((t : List Peer) → metOf t r ≡ unless (firstOf (refusalsAt s p o at (findOf (now (addresses .entry)) 0) primitive address code)) t (turnIn t at (findOf (now (addresses .entry)) 0) (askOf s (aidOf at) p o primitive code) (askOf s (aidOf at) p o primitive code))) ⌝ }
 {
-    let at = find(addresses, address);
-    let free = find(addresses, 0);
-    let p = peer_at(t, at, address);
-    let o = others(s, t);
-    let n = refusal(s, p, o, at, free, primitive, address, code);
+    let n = refusal(s, addresses, at, p, o, primitive, address, code);
     if n != 0 {
-        return refused(t, n);
+        return refused(n);
     }
     let turn = peer::ask::ask(s, aid(at), p, o, primitive, code);
     // The other turn is not needed: without a free place refusal 6 came first.
-    turn_in(t, at, free, turn, turn)
+    turn_in(addresses, at, turn, turn)
 }
 
-fn asked(s: Settings, t: [Record; 32], primitive: u8, address: u64, code: u16, room: usize) -> Met
-    ensures { λ m. ⌜ m ≡ askedOf s t primitive address code room ⌝ }
+fn asked(
+    s: Settings,
+    t: [Record; 32],
+    primitive: u8,
+    address: u64,
+    code: u16,
+    room: usize,
+) -> Change
+    ensures { λ c. ⌜ metOf t c ≡ askedOf s t primitive address code room ⌝ }
 {
     if room < Frame::LONGEST {
-        return refused(t, 1);
+        return refused(1);
     }
-    let c = check(s, t);
-    if c.ok {} else {
-        return refused(t, 2);
+    let v = survey(s, t);
+    let addresses = v.addresses;
+    if well(s, v.fit, v.crowd, &addresses) {} else {
+        return refused(2);
     }
-    let addresses = c.addresses;
-    asked_at(s, t, &addresses, primitive, address, code)
+    let at = find(&addresses, address);
+    let o = others(s, v.associated, v.crowd);
+    asked_at(
+        s,
+        &addresses,
+        at,
+        peer_at(t, at, address),
+        o,
+        primitive,
+        address,
+        code,
+    )
 }
 
 // A primitive: the table after it, the answer, and the frame in the buffer.
@@ -148,6 +170,6 @@ pub fn ask(
 ) -> Stepped
     ensures { λ r. ⌜ (r ≡ steppedOf (askedOf s t primitive address code (length (now (out .entry)))) (length (now (out .entry)))) × (now (out .exit) ≡ saidIn (askedOf s t primitive address code (length (now (out .entry))) .reply) (now (out .entry))) ⌝ }
 {
-    let m = asked(s, t, primitive, address, code, out.len());
-    finish(m, out)
+    let c = asked(s, t, primitive, address, code, out.len());
+    finish(met(t, c), out)
 }

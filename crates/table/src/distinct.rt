@@ -1,8 +1,9 @@
 // Whether no address but 0 stands in two places.
 ghost use mathlib.Core.Path.{_≡_};
+ghost use mathlib.Core.Bool.{not, _||_};
 ghost use lib.ListN.{drop};
 ghost use Rattle.table.specs.Places.{allOf};
-ghost use Rattle.table.specs.Fit.{apart, aloneIn, distinctOf};
+ghost use Rattle.table.specs.Fit.{apart, distinctOf, markOf};
 
 // Whether no place from one on has an address.
 fn unused_from(addresses: &[u64], a: u64, from: usize) -> bool
@@ -18,25 +19,39 @@ fn unused_from(addresses: &[u64], a: u64, from: usize) -> bool
     true
 }
 
-// Whether an address is 0 or in no place from one on.
-fn alone(addresses: &[u64], a: u64, from: usize) -> bool
-    ensures { λ r. ⌜ r ≡ aloneIn a (drop from (now (addresses .entry))) ⌝ }
+// The mark of an address, its last octet: the one in which peers differ most often.
+fn mark(a: u64) -> usize
+    ensures { λ r. ⌜ r ≡ markOf a ⌝ }
 {
-    if a == 0 {
-        return true;
-    }
-    unused_from(addresses, a, from)
+    (a / 1099511627776 % 256) as usize
 }
 
+// Whether no place from one on has an address, where it may: none has it if none has its mark.
+fn alone(addresses: &[u64], a: u64, from: usize, marked: bool) -> bool
+    ensures { λ r. ⌜ r ≡ (not marked || allOf (apart a) (drop from (now (addresses .entry)))) ⌝ }
+{
+    if marked {
+        unused_from(addresses, a, from)
+    } else {
+        true
+    }
+}
+
+// From the last place to the first. A place is compared with those behind it only where one of them has its mark.
 pub fn distinct(addresses: &[u64]) -> bool
     ensures { λ r. ⌜ r ≡ distinctOf (now (addresses .entry)) ⌝ }
 {
-    let mut i = 0;
-    while i < addresses.len() {
-        if alone(addresses, addresses[i], i + 1) {
-            i += 1;
-        } else {
-            return false;
+    let mut marks = [false; 256];
+    let mut i = addresses.len();
+    while 0 < i {
+        i -= 1;
+        let a = addresses[i];
+        if a != 0 {
+            let m = mark(a);
+            if alone(addresses, a, i + 1, marks[m]) {} else {
+                return false;
+            }
+            marks[m] = true;
         }
     }
     true

@@ -1,22 +1,19 @@
-// Whether settings and table are well formed, with the table's addresses.
+// Whether settings and table are well formed: one pass over the table finds all that the rules ask of it.
 use crate::distinct::distinct;
 use peer::fit::place_fits;
 use peer::record::Record;
 use peer::settings::Settings;
 ghost use mathlib.Core.Path.{_≡_};
-ghost use mathlib.Core.Bool.{_&&_};
+ghost use mathlib.Core.Bool.{_&&_, _||_};
+ghost use lib.Dec.{eqb, leb};
 ghost use Prim.Native.Nat.{_+_, _<_};
 ghost use Rattle.octets.specs.Pick.{pick};
 ghost use Rattle.peer.specs.Fit.{placeFits};
-ghost use Rattle.peer.specs.Settings.{settingsFit};
+ghost use Rattle.peer.specs.Record.{isJoined, associates};
+ghost use Rattle.peer.specs.Settings.{ap, settingsFit};
 ghost use Rattle.table.specs.Places.{allOf, addressesOf};
-ghost use Rattle.table.specs.Fit.{crowdOf, sparseOf, distinctOf, wellFormed};
-
-// Whether each place fits by itself, and the addresses.
-pub struct Seen {
-    pub fit: bool,
-    pub addresses: [u64; 32],
-}
+ghost use Rattle.table.specs.Others.{associatedOf};
+ghost use Rattle.table.specs.Fit.{crowdOf, countedOf, distinctOf, wellFormed};
 
 // How many records are in State 3 or 4, and how many (re)associations are under way.
 pub struct Counts {
@@ -24,9 +21,13 @@ pub struct Counts {
     pub associating: usize,
 }
 
-// Whether all is well formed, and the addresses.
-pub struct Checked {
-    pub ok: bool,
+// What one pass finds.
+pub struct View {
+    // Whether each place fits by itself.
+    pub fit: bool,
+    pub crowd: Counts,
+    // The address of the first record in State 3 or 4, or 0.
+    pub associated: u64,
     pub addresses: [u64; 32],
 }
 
@@ -34,21 +35,6 @@ fn both(a: bool, b: bool) -> bool
     ensures { λ r. ⌜ r ≡ (a && b) ⌝ }
 {
     if a { b } else { false }
-}
-
-fn survey(s: Settings, t: [Record; 32]) -> Seen
-    ensures { λ r. ⌜ (r .fit ≡ allOf (placeFits s) t) × (r .addresses ≡ addressesOf t) ⌝ }
-{
-    let mut addresses = [0u64; 32];
-    let mut fit = true;
-    let mut i = 0;
-    while i < 32 {
-        let p = t[i];
-        fit = both(fit, place_fits(s, p));
-        addresses[i] = p.address;
-        i += 1;
-    }
-    Seen { fit, addresses }
 }
 
 // A count, one more where a test holds.
@@ -59,41 +45,70 @@ fn counted(n: usize, b: bool) -> usize
     if b { n + 1 } else { n }
 }
 
-pub fn crowd(t: [Record; 32]) -> Counts
-    ensures { λ r. ⌜ r ≡ crowdOf t ⌝ }
+// The counts with one record more.
+pub(crate) fn crowd_with(c: Counts, p: Record) -> Counts
+    requires { ⌜ (c .joined < 32) × (c .associating < 32) ⌝ }
+    ensures { λ r. ⌜ r ≡ countedOf c p ⌝ }
 {
-    let mut joined = 0;
-    let mut associating = 0;
+    Counts {
+        joined: counted(c.joined, p.is_joined()),
+        associating: counted(c.associating, p.is_associating()),
+    }
+}
+
+// The address of the first record in State 3 or 4, once one record more is seen.
+pub(crate) fn first_joined(joined: usize, associated: u64, p: Record) -> u64
+    ensures { λ r. ⌜ r ≡ pick (eqb joined 0 && isJoined p) (p .address) associated ⌝ }
+{
+    if joined != 0 {
+        return associated;
+    }
+    if p.is_joined() { p.address } else { associated }
+}
+
+pub fn survey(s: Settings, t: [Record; 32]) -> View
+    ensures { λ r. ⌜ (r .fit ≡ allOf (placeFits s) t) × (r .crowd ≡ crowdOf t) × (r .associated ≡ associatedOf t) × (r .addresses ≡ addressesOf t) ⌝ }
+{
+    let mut addresses = [0u64; 32];
+    let mut fit = true;
+    let mut crowd = Counts {
+        joined: 0,
+        associating: 0,
+    };
+    let mut associated = 0;
     let mut i = 0;
     while i < 32 {
         let p = t[i];
-        joined = counted(joined, p.is_joined());
-        associating = counted(associating, p.is_associating());
+        fit = both(fit, place_fits(s, p));
+        associated = first_joined(crowd.joined, associated, p);
+        crowd = crowd_with(crowd, p);
+        addresses[i] = p.address;
         i += 1;
     }
-    Counts {
-        joined,
-        associating,
+    View {
+        fit,
+        crowd,
+        associated,
+        addresses,
     }
 }
 
 // Whether a station has at most one record in State 3 or 4 and at most one (re)association under way.
-fn sparse(s: Settings, t: [Record; 32]) -> bool
-    ensures { λ r. ⌜ r ≡ sparseOf s t ⌝ }
+fn sparse(s: Settings, c: Counts) -> bool
+    ensures { λ r. ⌜ r ≡ (eqb (s .role) ap || (leb (c .joined) 1 && leb (c .associating) 1)) ⌝ }
 {
     if s.role == Settings::AP {
         return true;
     }
-    let c = crowd(t);
     if 1 < c.joined {
         return false;
     }
     c.associating <= 1
 }
 
-// What is left to ask once each place was looked at.
-fn all_fit(s: Settings, t: [Record; 32], fit: bool, addresses: &[u64]) -> bool
-    ensures { λ r. ⌜ r ≡ (settingsFit s && (fit && (distinctOf (now (addresses .entry)) && sparseOf s t))) ⌝ }
+// Whether all is well formed, by what one pass found.
+pub fn well(s: Settings, fit: bool, crowd: Counts, addresses: &[u64]) -> bool
+    ensures { λ r. ⌜ r ≡ (settingsFit s && (fit && (distinctOf (now (addresses .entry)) && (eqb (s .role) ap || (leb (crowd .joined) 1 && leb (crowd .associating) 1))))) ⌝ }
 {
     if s.fit() {} else {
         return false;
@@ -102,17 +117,16 @@ fn all_fit(s: Settings, t: [Record; 32], fit: bool, addresses: &[u64]) -> bool
         return false;
     }
     if distinct(addresses) {
-        sparse(s, t)
+        sparse(s, crowd)
     } else {
         false
     }
 }
 
-pub fn check(s: Settings, t: [Record; 32]) -> Checked
-    ensures { λ r. ⌜ (r .ok ≡ wellFormed s t) × (r .addresses ≡ addressesOf t) ⌝ }
+pub fn well_formed(s: Settings, t: [Record; 32]) -> bool
+    ensures { λ r. ⌜ r ≡ wellFormed s t ⌝ }
 {
     let v = survey(s, t);
     let addresses = v.addresses;
-    let ok = all_fit(s, t, v.fit, &addresses);
-    Checked { ok, addresses }
+    well(s, v.fit, v.crowd, &addresses)
 }

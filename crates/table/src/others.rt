@@ -1,28 +1,16 @@
 // What a station's primitives ask of the whole table. At an access point it is not looked at.
-use crate::fit::crowd;
-use peer::record::Record;
+use crate::fit::Counts;
 use peer::refuse::Others;
 use peer::settings::Settings;
 ghost use mathlib.Core.Path.{_≡_};
+ghost use mathlib.Core.List.{List};
+ghost use Rattle.peer.specs.declared.record.Record.{Record as Peer};
+ghost use Rattle.table.specs.Fit.{crowdOf};
 ghost use Rattle.table.specs.Others.{associatedOf, othersOf};
 
-// The address of the first record in State 3 or 4, or 0.
-fn associated(t: [Record; 32]) -> u64
-    ensures { λ r. ⌜ r ≡ associatedOf t ⌝ }
-{
-    let mut i = 0;
-    while i < 32 {
-        let p = t[i];
-        if p.is_joined() {
-            return p.address;
-        }
-        i += 1;
-    }
-    0
-}
-
-pub fn others(s: Settings, t: [Record; 32]) -> Others
-    ensures { λ r. ⌜ r ≡ othersOf s t ⌝ }
+// From the address of the first record in State 3 or 4, and the counts.
+pub fn others(s: Settings, associated: u64, crowd: Counts) -> Others
+    ensures { λ r. ⌜ ((t : List Peer) → associated ≡ associatedOf t → crowd ≡ crowdOf t → r ≡ othersOf s t) ⌝ }
 {
     if s.role == Settings::AP {
         return Others {
@@ -30,10 +18,8 @@ pub fn others(s: Settings, t: [Record; 32]) -> Others
             busy: false,
         };
     }
-    let associated = associated(t);
-    let c = crowd(t);
     Others {
         associated,
-        busy: 0 < c.associating,
+        busy: 0 < crowd.associating,
     }
 }

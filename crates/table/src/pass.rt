@@ -1,17 +1,20 @@
 // A clock step: every time falls, exchanges end with a report, and places are freed.
 use crate::answer::Answer;
 use crate::answer::Stepped;
-use crate::fit::check;
+use crate::fit::well_formed;
 use octets::report::write_report;
 use peer::record::Record;
 use peer::settings::Settings;
 use peer::tick::tick;
 ghost use mathlib.Core.Path.{_≡_};
+ghost use mathlib.Core.Bool.{not};
+ghost use mathlib.Core.List.{[], _∷_};
 ghost use Prim.Native.Nat.{_+_, _≤_};
+ghost use lib.Dec.{ltb, eqb};
 ghost use lib.ListN.{length};
 ghost use lib.Seq.{sets};
 ghost use Rattle.table.specs.Refusals.{firstOf};
-ghost use Rattle.table.specs.Pass.{reportFor, reportsOf, clockedOf, passRefusals, passedOf, passedIn};
+ghost use Rattle.table.specs.Pass.{reportFor, reportsOf, clockedOf, passedOf, passedIn};
 
 // The table after a clock step, and how many octets of reports were written.
 pub struct Clocked {
@@ -52,15 +55,14 @@ fn clock(s: Settings, t: [Record; 32], d: u16, out: &mut [u8]) -> Clocked
     }
 }
 
-// The first refusal that applies; 0 where none does.
-fn refusal(s: Settings, t: [Record; 32], d: u16, room: usize) -> u8
-    ensures { λ r. ⌜ r ≡ firstOf (passRefusals s t d room) ⌝ }
+// The first refusal that applies, by whether settings and table are well formed; 0 where none does.
+pub(crate) fn refusal(room: usize, ok: bool, d: u16) -> u8
+    ensures { λ r. ⌜ r ≡ firstOf ((1, ltb room 256) ∷ (2, not ok) ∷ (3, eqb d 0) ∷ []) ⌝ }
 {
     if room < 256 {
         return 1;
     }
-    let c = check(s, t);
-    if c.ok {} else {
+    if ok {} else {
         return 2;
     }
     if d == 0 { 3 } else { 0 }
@@ -77,7 +79,7 @@ pub fn pass(s: Settings, t: [Record; 32], d: u16, out: &mut [u8]) -> Stepped
             answer: Answer::refusal(1),
         };
     }
-    let n = refusal(s, t, d, out.len());
+    let n = refusal(out.len(), well_formed(s, t), d);
     if n != 0 {
         return Stepped {
             table: t,

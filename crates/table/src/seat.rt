@@ -1,8 +1,9 @@
-// A peer's turn in the table: where its record goes, and what is said.
+// A peer's turn in the table: where its record goes, and what is said. None of this looks at a table: an event stores at most one record.
 use crate::answer::Answer;
 use crate::answer::Met;
 use crate::answer::Stepped;
 use crate::places::Found;
+use crate::places::find;
 use crate::places::look;
 use crate::places::part_all;
 use crate::places::store;
@@ -12,53 +13,73 @@ use peer::record::under_way;
 use peer::reply::Reply;
 use peer::turn::Turn;
 ghost use mathlib.Core.Path.{_≡_};
-ghost use lib.ListN.{length};
-ghost use Rattle.table.specs.Answer.{saidLength, saidIn, steppedOf};
-ghost use Rattle.table.specs.Seat.{peerOf, seatedOf, strangerOf, startsOf, newcomerOf, turnIn};
+ghost use mathlib.Core.List.{List, map};
+ghost use lib.ListN.{length, set};
+ghost use Rattle.octets.specs.Pick.{pick};
+ghost use Rattle.peer.specs.Association.{partedOf};
+ghost use Rattle.peer.specs.declared.record.Record.{Record as Peer};
+ghost use Rattle.table.specs.Answer.{saidLength, saidIn, steppedOf, settledOf, refusedOf, countAnswer};
+ghost use Rattle.table.specs.Places.{findOf};
+ghost use Rattle.table.specs.Seat.{metOf, peerOf, seatedOf, strangerOf, startsOf, newcomerOf, turnIn};
 
-// The record of a peer, or a fresh one.
-pub fn peer_at(t: [Record; 32], at: Found, address: u64) -> Record
-    ensures { λ r. ⌜ r ≡ peerOf t at address ⌝ }
-{
-    match at {
-        Found::Nothing => Record::fresh(address),
-        Found::At(i) => look(t, i),
-    }
+// What an event makes of a table, and what is said.
+pub struct Change {
+    // Where the record is stored, if it is.
+    pub place: Found,
+    pub peer: Record,
+    // Any other record in State 3 or 4 goes to State 2.
+    pub sole: bool,
+    pub answer: Answer,
+    pub reply: Reply,
 }
 
-// A turn of the peer at a place.
-fn seated(t: [Record; 32], i: usize, turn: Turn) -> Met
-    ensures { λ r. ⌜ r ≡ seatedOf t i turn ⌝ }
+// The table stays.
+fn kept(answer: Answer, reply: Reply) -> Change
+    ensures { λ r. ⌜ ((t : List Peer) → metOf t r ≡ record { table = t; answer = answer; reply = reply }) ⌝ }
 {
-    let p = turn.peer;
-    let answer = Answer::turn(turn, p.state);
-    let reply = turn.reply;
-    if turn.sole {
-        let table = store(part_all(t), i, p);
-        return Met {
-            table,
-            answer,
-            reply,
-        };
-    }
-    let table = store(t, i, p);
-    Met {
-        table,
+    Change {
+        place: Found::Nothing,
+        peer: Record::free(),
+        sole: false,
         answer,
         reply,
     }
 }
 
-// A turn of a peer that has no record and gets none.
-fn stranger(t: [Record; 32], turn: Turn) -> Met
-    ensures { λ r. ⌜ r ≡ strangerOf t turn ⌝ }
+// The table stays, and nothing is said.
+pub fn settled(answer: Answer) -> Change
+    ensures { λ r. ⌜ ((t : List Peer) → metOf t r ≡ settledOf t answer) ⌝ }
 {
+    kept(answer, Reply::Silent)
+}
+
+pub fn refused(number: u8) -> Change
+    ensures { λ r. ⌜ ((t : List Peer) → metOf t r ≡ refusedOf t number) ⌝ }
+{
+    settled(Answer::refusal(number))
+}
+
+// A turn of the peer at a place.
+fn seated(i: usize, turn: Turn) -> Change
+    ensures { λ r. ⌜ ((t : List Peer) → metOf t r ≡ seatedOf t i turn) ⌝ }
+{
+    let peer = turn.peer;
     let reply = turn.reply;
-    Met {
-        table: t,
-        answer: Answer::turn(turn, 0),
+    Change {
+        place: Found::At(i),
+        peer,
+        sole: turn.sole,
+        answer: Answer::turn(turn, peer.state),
         reply,
     }
+}
+
+// A turn of a peer that has no record and gets none.
+fn stranger(turn: Turn) -> Change
+    ensures { λ r. ⌜ ((t : List Peer) → metOf t r ≡ strangerOf t turn) ⌝ }
+{
+    let reply = turn.reply;
+    kept(Answer::turn(turn, 0), reply)
 }
 
 // Whether a turn leaves an exchange under way, so that a stranger needs a record.
@@ -71,25 +92,26 @@ pub fn starts(turn: Turn) -> bool
 }
 
 // A turn of a peer that has no record: a new one takes the lowest free place; where there is none, the other turn.
-fn newcomer(t: [Record; 32], free: Found, turn: Turn, full: Turn) -> Met
-    ensures { λ r. ⌜ r ≡ newcomerOf t free turn full ⌝ }
+fn newcomer(addresses: &[u64], turn: Turn, full: Turn) -> Change
+    ensures { λ r. ⌜ ((t : List Peer) → metOf t r ≡ newcomerOf t (findOf (now (addresses .entry)) 0) turn full) ⌝ }
 {
     if starts(turn) {
-        match free {
-            Found::Nothing => stranger(t, full),
-            Found::At(i) => seated(t, i, turn),
+        match find(addresses, 0) {
+            Found::Nothing => stranger(full),
+            Found::At(i) => seated(i, turn),
         }
     } else {
-        stranger(t, turn)
+        stranger(turn)
     }
 }
 
-pub fn turn_in(t: [Record; 32], at: Found, free: Found, turn: Turn, full: Turn) -> Met
-    ensures { λ r. ⌜ r ≡ turnIn t at free turn full ⌝ }
+// A turn of the peer found at a place, or nowhere, in a table with these addresses.
+pub fn turn_in(addresses: &[u64], at: Found, turn: Turn, full: Turn) -> Change
+    ensures { λ r. ⌜ ((t : List Peer) → metOf t r ≡ turnIn t at (findOf (now (addresses .entry)) 0) turn full) ⌝ }
 {
     match at {
-        Found::Nothing => newcomer(t, free, turn, full),
-        Found::At(i) => seated(t, i, turn),
+        Found::Nothing => newcomer(addresses, turn, full),
+        Found::At(i) => seated(i, turn),
     }
 }
 
@@ -103,16 +125,67 @@ fn say(reply: Reply, out: &mut [u8]) -> u16
     }
 }
 
+// The answer once the reply is written.
+pub fn answered(answer: Answer, reply: Reply, out: &mut [u8]) -> Answer
+    ensures { λ r. ⌜ (r ≡ countAnswer answer (saidLength reply (length (now (out .entry))))) × (now (out .exit) ≡ saidIn reply (now (out .entry))) ⌝ }
+{
+    answer.count(say(reply, out))
+}
+
+// The record of a peer, or a fresh one.
+pub fn peer_at(t: [Record; 32], at: Found, address: u64) -> Record
+    ensures { λ r. ⌜ r ≡ peerOf t at address ⌝ }
+{
+    match at {
+        Found::Nothing => Record::fresh(address),
+        Found::At(i) => look(t, i),
+    }
+}
+
+// The table with a record stored at a place, and any other parted where it is so.
+fn stored(t: [Record; 32], i: usize, p: Record, sole: bool) -> [Record; 32]
+    ensures { λ r. ⌜ r ≡ set (pick sole (map partedOf t) t) i p ⌝ }
+{
+    if sole {
+        store(part_all(t), i, p)
+    } else {
+        store(t, i, p)
+    }
+}
+
+// A table with a change.
+pub fn met(t: [Record; 32], c: Change) -> Met
+    ensures { λ r. ⌜ r ≡ metOf t c ⌝ }
+{
+    let answer = c.answer;
+    let reply = c.reply;
+    let place = c.place;
+    match place {
+        Found::Nothing => Met {
+            table: t,
+            answer,
+            reply,
+        },
+        Found::At(i) => {
+            let p = c.peer;
+            Met {
+                table: stored(t, i, p, c.sole),
+                answer,
+                reply,
+            }
+        }
+    }
+}
+
 // Table and answer once the reply is written.
 pub fn finish(m: Met, out: &mut [u8]) -> Stepped
     ensures { λ r. ⌜ (r ≡ steppedOf m (length (now (out .entry)))) × (now (out .exit) ≡ saidIn (m .reply) (now (out .entry))) ⌝ }
 {
-    let reply = m.reply;
-    let written = say(reply, out);
     let table = m.table;
     let answer = m.answer;
+    let reply = m.reply;
     Stepped {
         table,
-        answer: answer.count(written),
+        answer: answered(answer, reply, out),
     }
 }

@@ -1,10 +1,10 @@
 -- `table::ask::asked` meets its contract: each answer by the tests that led to it and what its callees ensure.
 -- Assumes nothing.
-use Rattle.octets.proofs.Branch.{tests}
-use Rattle.table.specs.Ask.{askedOf}
+use Rattle.table.proofs.Views.{well-of}
+use Rattle.table.specs.Ask.{askedAt, askedOf}
 use Rattle.table.specs.Refusals.{firstOf, unless}
 use borrow.Author.Needs.{needs}
-use borrow.Author.Tests.{le-ltb}
+use borrow.Author.Tests.{le-ltb, lt-ltb}
 use Rattle.table.proofs.ask.asked.Statement.{statement}
 use Rattle.table.proofs.ask.asked.Tie as tie
 
@@ -12,28 +12,46 @@ refused-requires : tie.Need-refused-requires
 refused-requires c κs = search needs
 
 returns : tie.Need-returns
-unfolding askedOf firstOf unless
-returns c = search (tests, ← c .refused .ensures)
+unfolding askedOf askedAt firstOf unless
+returns c = rw (lt-ltb _ _ (c .before .if1 .taken)) (c .refused .ensures (c .before .before .args .t))
 
-check-requires : tie.Need-check-requires
-check-requires c κs = search needs
+survey-requires : tie.Need-survey-requires
+survey-requires c κs = search needs
+
+slice-aggregate-well : tie.Need-slice-aggregate-well
+slice-aggregate-well c = search needs
+
+well-requires : tie.Need-well-requires
+well-requires c κs = search needs
 
 refused-requires-2 : tie.Need-refused-requires-2
 refused-requires-2 c κs = search needs
 
 returns-2 : tie.Need-returns-2
-unfolding askedOf firstOf unless
-returns-2 c = rw (le-ltb _ _ (c .before .before .before .if1 .left), ← c .before .before .check .ensures .0, c .before .if2 .left) (c .refused2 .ensures)
+unfolding askedOf askedAt firstOf unless
+returns-2 c = rw (le-ltb _ _ (c .before .before .before .before .before .before .if1 .left), ← well-of (c .before .before .before .before .before .before .before .args .s) (c .before .before .before .before .before .before .before .args .t) (c .before .before .before .before .before .survey .result) (c .before .before .before .before .before .survey .ensures) _ (c .before .before .well .ensures), c .before .if2 .left) (c .refused2 .ensures (c .before .before .before .before .before .before .before .args .t))
+
+slice-aggregate-find : tie.Need-slice-aggregate-find
+slice-aggregate-find c = search needs
+
+find-requires : tie.Need-find-requires
+find-requires c κs = search needs
+
+others-requires : tie.Need-others-requires
+others-requires c κs = search needs
 
 slice-aggregate-asked-at : tie.Need-slice-aggregate-asked-at
 slice-aggregate-asked-at c = search needs
+
+peer-at-requires : tie.Need-peer-at-requires
+peer-at-requires c κs = search needs
 
 asked-at-requires : tie.Need-asked-at-requires
 asked-at-requires c κs = search needs
 
 returns-3 : tie.Need-returns-3
-unfolding askedOf firstOf unless
-returns-3 c = rw (le-ltb _ _ (c .before .before .before .before .before .if1 .left), ← c .before .before .before .before .check .ensures .0, c .before .before .before .if2 .taken, ← c .before .before .before .before .check .ensures .1) (c .asked-at .ensures)
+unfolding askedOf askedAt firstOf unless
+returns-3 c = rw (le-ltb _ _ (c .before .before .before .before .before .before .before .before .before .before .before .if1 .left), ← well-of (c .before .before .before .before .before .before .before .before .before .before .before .before .args .s) (c .before .before .before .before .before .before .before .before .before .before .before .before .args .t) (c .before .before .before .before .before .before .before .before .before .before .survey .result) (c .before .before .before .before .before .before .before .before .before .before .survey .ensures) _ (c .before .before .before .before .before .before .before .well .ensures), c .before .before .before .before .before .before .if2 .taken, ← c .before .before .before .before .before .before .before .before .before .before .survey .ensures .3, ← c .before .before .before .before .find .ensures, ← c .before .peer-at .ensures, ← c .before .before .before .others .ensures (c .before .before .before .before .before .before .before .before .before .before .before .before .args .t) (c .before .before .before .before .before .before .before .before .before .before .survey .ensures .2) (c .before .before .before .before .before .before .before .before .before .before .survey .ensures .1)) (c .asked-at .ensures (c .before .before .before .before .before .before .before .before .before .before .before .before .args .t))
 
 pub asked-spec : {M : Type 1} → statement M
 asked-spec =
@@ -41,9 +59,15 @@ asked-spec =
     (tie.spec
     refused-requires
     returns
-    check-requires
+    survey-requires
+    slice-aggregate-well
+    well-requires
     refused-requires-2
     returns-2
+    slice-aggregate-find
+    find-requires
+    others-requires
     slice-aggregate-asked-at
+    peer-at-requires
     asked-at-requires
     returns-3)

@@ -1,23 +1,10 @@
 -- `table::ask::asked_at` meets its contract: each answer by the tests that led to it and what its callees ensure.
 -- Assumes nothing.
-use Rattle.table.specs.Ask.{askedAt}
 use Rattle.table.specs.Refusals.{unless}
 use borrow.Author.Needs.{needs}
 use borrow.Author.Tests.{eq-eqb, ne-eqb}
 use Rattle.table.proofs.ask.asked_at.Statement.{statement}
 use Rattle.table.proofs.ask.asked_at.Tie as tie
-
-find-requires : tie.Need-find-requires
-find-requires c κs = search needs
-
-find-requires-2 : tie.Need-find-requires-2
-find-requires-2 c κs = search needs
-
-peer-at-requires : tie.Need-peer-at-requires
-peer-at-requires c κs = search needs
-
-others-requires : tie.Need-others-requires
-others-requires c κs = search needs
 
 refusal-requires : tie.Need-refusal-requires
 refusal-requires c κs = search needs
@@ -26,8 +13,8 @@ refused-requires : tie.Need-refused-requires
 refused-requires c κs = search needs
 
 returns : tie.Need-returns
-unfolding askedAt unless
-returns c = rw (← c .before .before .before .before .before .before .find .ensures, ← c .before .before .before .before .before .find2 .ensures, ← c .before .before .before .before .peer-at .ensures, ← c .before .before .before .others .ensures, ← c .before .before .refusal .ensures, ne-eqb _ _ (c .before .if1 .taken)) (c .refused .ensures)
+unfolding unless
+returns c = λ t. rw (← c .before .before .refusal .ensures, ne-eqb _ _ (c .before .if1 .taken)) (c .refused .ensures t)
 
 aid-requires : tie.Need-aid-requires
 aid-requires c κs = search needs
@@ -39,17 +26,13 @@ turn-in-requires : tie.Need-turn-in-requires
 turn-in-requires c κs = search needs
 
 returns-2 : tie.Need-returns-2
-unfolding askedAt unless
-returns-2 c = rw (← c .before .before .before .before .before .before .before .before .find .ensures, ← c .before .before .before .before .before .before .before .find2 .ensures, ← c .before .before .before .before .before .before .peer-at .ensures, ← c .before .before .before .before .before .others .ensures, ← c .before .before .before .before .refusal .ensures, eq-eqb _ _ (c .before .before .before .if1 .left), ← c .before .before .aid .ensures, ← c .before .ask .ensures) (c .turn-in .ensures)
+unfolding unless
+returns-2 c = λ t. rw (← c .before .before .before .before .refusal .ensures, eq-eqb _ _ (c .before .before .before .if1 .left), ← c .before .before .aid .ensures, ← c .before .ask .ensures) (c .turn-in .ensures t)
 
 pub asked-at-spec : {M : Type 1} → statement M
 asked-at-spec =
     tie.close
     (tie.spec
-    find-requires
-    find-requires-2
-    peer-at-requires
-    others-requires
     refusal-requires
     refused-requires
     returns

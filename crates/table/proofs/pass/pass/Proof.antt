@@ -1,10 +1,9 @@
 -- `table::pass::pass` meets its contract: each answer by the tests that led to it and what its callees ensure.
 -- Assumes nothing.
-use Rattle.octets.proofs.Branch.{tests}
 use Rattle.table.specs.Pass.{passedIn, passedOf}
 use Rattle.table.specs.Refusals.{firstOf}
 use borrow.Author.Needs.{needs}
-use borrow.Author.Tests.{eq-eqb, ne-eqb}
+use borrow.Author.Tests.{eq-eqb, lt-ltb, ne-eqb}
 use mathlib.Core.Path.{refl}
 use Rattle.table.proofs.pass.pass.Statement.{statement}
 use Rattle.table.proofs.pass.pass.Tie as tie
@@ -14,7 +13,10 @@ refusal-requires c κs = search needs
 
 returns : tie.Need-returns
 unfolding passedOf passedIn firstOf
-returns c = search (tests, ← c .refusal .ensures)
+returns c = rw (lt-ltb _ _ (c .before .if1 .taken), ← c .refusal .ensures) (refl, refl)
+
+well-formed-requires : tie.Need-well-formed-requires
+well-formed-requires c κs = search needs
 
 refusal-requires-2 : tie.Need-refusal-requires-2
 refusal-requires-2 c κs = search needs
@@ -24,7 +26,7 @@ refusal-requires-3 c κs = search needs
 
 returns-2 : tie.Need-returns-2
 unfolding passedOf passedIn
-returns-2 c = rw (← c .before .before .refusal2 .ensures, ne-eqb _ _ (c .before .if2 .taken), ← c .refusal3 .ensures) (refl, refl)
+returns-2 c = rw (← c .before .before .before .well-formed .ensures, ← c .before .before .refusal2 .ensures, ne-eqb _ _ (c .before .if2 .taken), ← c .refusal3 .ensures) (refl, refl)
 
 clock-requires : tie.Need-clock-requires
 clock-requires c κs = search needs
@@ -40,7 +42,7 @@ same-length c = search needs
 
 returns-3 : tie.Need-returns-3
 unfolding passedOf passedIn
-returns-3 c = rw (← c .before .before .before .before .before .before .before .before .refusal2 .ensures, eq-eqb _ _ (c .before .before .before .before .before .before .before .if2 .left)) (rw (← c .before .before .before .before .before .clock .ensures .0, c .count .ensures, c .before .refusal4 .ensures), c .before .before .before .before .before .clock .ensures .1)
+returns-3 c = rw (← c .before .before .before .before .before .before .before .before .before .well-formed .ensures, ← c .before .before .before .before .before .before .before .before .refusal2 .ensures, eq-eqb _ _ (c .before .before .before .before .before .before .before .if2 .left)) (rw (← c .before .before .before .before .before .clock .ensures .0, c .count .ensures, c .before .refusal4 .ensures), c .before .before .before .before .before .clock .ensures .1)
 
 pub pass-spec : {M : Type 1} → statement M
 pass-spec =
@@ -48,6 +50,7 @@ pass-spec =
     (tie.spec
     refusal-requires
     returns
+    well-formed-requires
     refusal-requires-2
     refusal-requires-3
     returns-2

@@ -1,6 +1,6 @@
--- `table::receive::heard_at` meets its contract: each arm by its case.
+-- `table::receive::heard_at` meets its contract: each answer by the tests that led to it and what its callees ensure.
 -- Assumes nothing.
-use Rattle.octets.proofs.Branch.{tests}
+use Rattle.table.specs.Receive.{heardFrom}
 use borrow.Author.Needs.{needs}
 use Rattle.table.proofs.receive.heard_at.Statement.{statement}
 use Rattle.table.proofs.receive.heard_at.Tie as tie
@@ -32,20 +32,30 @@ settled-requires-2 c κs = search needs
 enum-known-r-2 : tie.Need-enum-known-r-2
 enum-known-r-2 c = search needs
 
+find-requires : tie.Need-find-requires
+find-requires c κs = search needs
+
+peer-at-requires : tie.Need-peer-at-requires
+peer-at-requires c κs = search needs
+
 heard-from-requires : tie.Need-heard-from-requires
 heard-from-requires c κs = search needs
 
 returns : tie.Need-returns
-returns c = search (tests, ← c .refused .ensures, c .before .before .r .given .1)
+unfolding heardFrom
+returns c = rw (c .before .before .r .given .1) (c .refused .ensures (c .before .before .before .before .before .args .t))
 
 returns-2 : tie.Need-returns-2
-returns-2 c = search (tests, ← c .settled .ensures, ← c .before .verdict .ensures, c .before .before .enum-told .given .1)
+unfolding heardFrom
+returns-2 c = rw (c .before .before .enum-told .given .1, ← c .before .verdict .ensures) (c .settled .ensures (c .before .before .before .before .before .args .t))
 
 returns-3 : tie.Need-returns-3
-returns-3 c = search (tests, ← c .settled2 .ensures, ← c .before .verdict2 .ensures, c .before .before .enum-told2 .given .1)
+unfolding heardFrom
+returns-3 c = rw (c .before .before .enum-told2 .given .1, ← c .before .verdict2 .ensures) (c .settled2 .ensures (c .before .before .before .before .before .args .t))
 
 returns-4 : tie.Need-returns-4
-returns-4 c = search (tests, ← c .heard-from .ensures, c .before .before .r2 .given .1)
+unfolding heardFrom
+returns-4 c = rw (c .before .before .before .before .r2 .given .1, ← c .before .before .find .ensures, ← c .before .peer-at .ensures) (c .heard-from .ensures (c .before .before .before .before .before .before .before .args .t))
 
 pub heard-at-spec : {M : Type 1} → statement M
 heard-at-spec =
@@ -60,6 +70,8 @@ heard-at-spec =
     verdict-requires-2
     settled-requires-2
     enum-known-r-2
+    find-requires
+    peer-at-requires
     heard-from-requires
     returns
     returns-2

@@ -7,6 +7,9 @@ use Rattle.table.proofs.receive.receive.Tie as tie
 received-requires : tie.Need-received-requires
 received-requires c κs = search needs
 
+met-requires : tie.Need-met-requires
+met-requires c κs = search needs
+
 finish-requires : tie.Need-finish-requires
 finish-requires c κs = search needs
 
@@ -14,7 +17,8 @@ same-length : tie.Need-same-length
 same-length c = search needs
 
 returns : tie.Need-returns
-returns c = rw (← c .before .before .before .before .received .ensures) (c .before .before .finish .ensures)
+returns c = rw (← c .before .before .before .before .before .received .ensures, ← c .before .before .before .before .met .ensures) (c .before .before .finish .ensures)
 
 pub receive-spec : {M : Type 1} → statement M
-receive-spec = tie.close (tie.spec received-requires finish-requires same-length returns)
+receive-spec =
+    tie.close (tie.spec received-requires met-requires finish-requires same-length returns)

@@ -1,9 +1,9 @@
 -- `table::receive::received` meets its contract: each answer by the tests that led to it and what its callees ensure.
 -- Assumes nothing.
-use Rattle.octets.proofs.Branch.{tests}
+use Rattle.table.proofs.Views.{well-of}
 use Rattle.table.specs.Receive.{receivedOf}
 use borrow.Author.Needs.{needs}
-use borrow.Author.Tests.{le-ltb}
+use borrow.Author.Tests.{le-ltb, lt-ltb}
 use Rattle.table.proofs.receive.received.Statement.{statement}
 use Rattle.table.proofs.receive.received.Tie as tie
 
@@ -12,17 +12,23 @@ refused-requires c κs = search needs
 
 returns : tie.Need-returns
 unfolding receivedOf
-returns c = search (tests, ← c .refused .ensures)
+returns c = rw (lt-ltb _ _ (c .before .if1 .taken)) (c .refused .ensures (c .before .before .before .args .t))
 
-check-requires : tie.Need-check-requires
-check-requires c κs = search needs
+survey-requires : tie.Need-survey-requires
+survey-requires c κs = search needs
+
+slice-aggregate-well : tie.Need-slice-aggregate-well
+slice-aggregate-well c = search needs
+
+well-requires : tie.Need-well-requires
+well-requires c κs = search needs
 
 refused-requires-2 : tie.Need-refused-requires-2
 refused-requires-2 c κs = search needs
 
 returns-2 : tie.Need-returns-2
 unfolding receivedOf
-returns-2 c = rw (le-ltb _ _ (c .before .before .before .if1 .left), ← c .before .before .check .ensures .0, c .before .if2 .left) (c .refused2 .ensures)
+returns-2 c = rw (le-ltb _ _ (c .before .before .before .before .before .before .if1 .left), ← well-of (c .before .before .before .before .before .before .before .before .args .s) (c .before .before .before .before .before .before .before .before .args .t) (c .before .before .before .before .before .survey .result) (c .before .before .before .before .before .survey .ensures) _ (c .before .before .well .ensures), c .before .if2 .left) (c .refused2 .ensures (c .before .before .before .before .before .before .before .before .args .t))
 
 slice-aggregate-heard-at : tie.Need-slice-aggregate-heard-at
 slice-aggregate-heard-at c = search needs
@@ -35,7 +41,7 @@ heard-at-requires c κs = search needs
 
 returns-3 : tie.Need-returns-3
 unfolding receivedOf
-returns-3 c = rw (le-ltb _ _ (c .before .before .before .before .before .before .if1 .left), ← c .before .before .before .before .before .check .ensures .0, c .before .before .before .before .if2 .taken, ← c .before .before .before .before .before .check .ensures .1, ← c .before .read .ensures) (c .heard-at .ensures)
+returns-3 c = rw (le-ltb _ _ (c .before .before .before .before .before .before .before .before .if1 .left), ← well-of (c .before .before .before .before .before .before .before .before .before .before .args .s) (c .before .before .before .before .before .before .before .before .before .before .args .t) (c .before .before .before .before .before .before .before .survey .result) (c .before .before .before .before .before .before .before .survey .ensures) _ (c .before .before .before .before .well .ensures), c .before .before .before .if2 .taken, ← c .before .before .before .before .before .before .before .survey .ensures .3, ← c .before .read .ensures) (c .heard-at .ensures)
 
 pub received-spec : {M : Type 1} → statement M
 received-spec =
@@ -43,7 +49,9 @@ received-spec =
     (tie.spec
     refused-requires
     returns
-    check-requires
+    survey-requires
+    slice-aggregate-well
+    well-requires
     refused-requires-2
     returns-2
     slice-aggregate-heard-at

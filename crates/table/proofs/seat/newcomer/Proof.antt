@@ -1,6 +1,5 @@
 -- `table::seat::newcomer` meets its contract: each answer by the tests that led to it and what its callees ensure.
 -- Assumes nothing.
-use Rattle.octets.proofs.Branch.{tests}
 use Rattle.table.specs.Seat.{newcomerOf}
 use borrow.Author.Needs.{needs}
 use Rattle.table.proofs.seat.newcomer.Statement.{statement}
@@ -9,14 +8,17 @@ use Rattle.table.proofs.seat.newcomer.Tie as tie
 starts-requires : tie.Need-starts-requires
 starts-requires c κs = search needs
 
+find-requires : tie.Need-find-requires
+find-requires c κs = search needs
+
 enum-told : tie.Need-enum-told
 enum-told c = search needs
 
 stranger-requires : tie.Need-stranger-requires
 stranger-requires c κs = search needs
 
-enum-known-free : tie.Need-enum-known-free
-enum-known-free c = search needs
+enum-known-i : tie.Need-enum-known-i
+enum-known-i c = search needs
 
 seated-requires : tie.Need-seated-requires
 seated-requires c κs = search needs
@@ -26,24 +28,25 @@ stranger-requires-2 c κs = search needs
 
 returns : tie.Need-returns
 unfolding newcomerOf
-returns c = search (tests, ← c .stranger .ensures, c .before .enum-told .given .1, c .before .before .before .if1 .taken, ← c .before .before .before .before .starts .ensures)
+returns c = λ t. rw (← c .before .before .before .before .before .starts .ensures, c .before .before .before .before .if1 .taken, ← c .before .before .before .find .ensures, c .before .enum-told .given .1) (c .stranger .ensures t)
 
 returns-2 : tie.Need-returns-2
 unfolding newcomerOf
-returns-2 c = search (tests, ← c .seated .ensures, c .before .before .free .given .1, c .before .before .before .before .if1 .taken, ← c .before .before .before .before .before .starts .ensures)
+returns-2 c = λ t. rw (← c .before .before .before .before .before .before .starts .ensures, c .before .before .before .before .before .if1 .taken, ← c .before .before .before .before .find .ensures, c .before .before .i .given .1) (c .seated .ensures t)
 
 returns-3 : tie.Need-returns-3
 unfolding newcomerOf
-returns-3 c = search (tests, ← c .stranger2 .ensures, c .before .if1 .left, ← c .before .before .starts .ensures)
+returns-3 c = λ t. rw (← c .before .before .starts .ensures, c .before .if1 .left) (c .stranger2 .ensures t)
 
 pub newcomer-spec : {M : Type 1} → statement M
 newcomer-spec =
     tie.close
     (tie.spec
     starts-requires
+    find-requires
     enum-told
     stranger-requires
-    enum-known-free
+    enum-known-i
     seated-requires
     stranger-requires-2
     returns

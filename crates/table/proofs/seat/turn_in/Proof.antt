@@ -1,7 +1,5 @@
--- `table::seat::turn_in` meets its contract: each arm by its case.
+-- `table::seat::turn_in` meets its contract: each answer by the tests that led to it and what its callees ensure.
 -- Assumes nothing.
-use Rattle.octets.proofs.Branch.{tests}
-use Rattle.octets.proofs.Table.{at}
 use borrow.Author.Needs.{needs}
 use Rattle.table.proofs.seat.turn_in.Statement.{statement}
 use Rattle.table.proofs.seat.turn_in.Tie as tie
@@ -19,10 +17,10 @@ seated-requires : tie.Need-seated-requires
 seated-requires c κs = search needs
 
 returns : tie.Need-returns
-returns c = search (tests, ← c .newcomer .ensures, c .before .enum-told .given .1)
+returns c = λ t. rw (c .before .enum-told .given .1) (c .newcomer .ensures t)
 
 returns-2 : tie.Need-returns-2
-returns-2 c = search (tests, ← c .seated .ensures, c .before .before .at .given .1)
+returns-2 c = λ t. rw (c .before .before .at .given .1) (c .seated .ensures t)
 
 pub turn-in-spec : {M : Type 1} → statement M
 turn-in-spec =

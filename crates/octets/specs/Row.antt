@@ -1,0 +1,28 @@
+-- A record of a peer as it crosses to a host: 16 octets, little-endian: address 8, hold 4, left 2, state 1, exchange 1.
+-- Assumes nothing.
+use Prim.Native.Nat.{ℕ, _+_}
+use mathlib.Core.List.{List, [], _∷_, _++_}
+use lib.Dec.{leb}
+use lib.ListN.{length}
+use lib.Seq.{sets}
+use Rattle.octets.specs.Pick.{pick}
+use Rattle.octets.specs.Field.{field, octets}
+use Rattle.octets.specs.declared.row.Row.{Row}
+
+abbrev pub noRow : Row
+noRow = record { address = 0; hold = 0; left = 0; state = 0; exchange = 0 }
+
+-- The row at place k; all zero where the octets end before it does.
+unfoldable pub rowAt : ℕ → List ℕ → Row
+rowAt k xs =
+    pick (leb (k + 16) (length xs))
+    (record { address = field 8 k xs; hold = field 4 (k + 8) xs; left = field 2 (k + 12) xs; state = field 1 (k + 14) xs; exchange = field 1 (k + 15) xs })
+    noRow
+
+-- The octets of a row.
+unfoldable pub rowOctets : Row → List ℕ
+rowOctets r = octets 8 (r .address) ++ octets 4 (r .hold) ++ octets 2 (r .left) ++ r .state ∷ r .exchange ∷ []
+
+-- The octets xs with a row stored at place k, where there is room for it.
+unfoldable pub rowIn : ℕ → Row → List ℕ → List ℕ
+rowIn k r xs = pick (leb (k + 16) (length xs)) (sets xs k (rowOctets r)) xs

@@ -1,0 +1,91 @@
+// A record of a peer as it crosses to a host: numbers only, in 16 octets.
+use crate::put::put_octet;
+use crate::put::put_u16;
+use crate::put::put_u32;
+use crate::put::put_u64;
+ghost use mathlib.Core.Path.{_≡_};
+ghost use Prim.Native.Nat.{_+_, _≤_};
+ghost use lib.Dec.{leb};
+ghost use lib.ListN.{length};
+ghost use Rattle.octets.specs.Field.{field};
+ghost use Rattle.octets.specs.Row.{rowAt, rowIn};
+
+pub struct Row {
+    pub address: u64,
+    pub hold: u32,
+    pub left: u16,
+    pub state: u8,
+    pub exchange: u8,
+}
+
+impl Row {
+    // How many octets a row has.
+    pub const OCTETS: usize = 16;
+}
+
+fn half(s: &[u8], at: usize) -> u16
+    requires { ⌜ at + 2 ≤ length (now s) ⌝ }
+    ensures { λ r. ⌜ r ≡ field 2 at (now (s .entry)) ⌝ }
+{
+    s[at] as u16 + 256 * (s[at + 1] as u16)
+}
+
+fn word(s: &[u8], at: usize) -> u32
+    requires { ⌜ at + 4 ≤ length (now s) ⌝ }
+    ensures { λ r. ⌜ r ≡ field 4 at (now (s .entry)) ⌝ }
+{
+    half(s, at) as u32 + 65536 * (half(s, at + 2) as u32)
+}
+
+fn long(s: &[u8], at: usize) -> u64
+    requires { ⌜ at + 8 ≤ length (now s) ⌝ }
+    ensures { λ r. ⌜ r ≡ field 8 at (now (s .entry)) ⌝ }
+{
+    word(s, at) as u64 + 4294967296 * (word(s, at + 4) as u64)
+}
+
+// Whether there is room for a row at a place.
+fn has_row(lent: usize, at: usize) -> bool
+    ensures { λ r. ⌜ r ≡ leb (at + 16) lent ⌝ }
+{
+    if lent < Row::OCTETS {
+        return false;
+    }
+    if lent - Row::OCTETS < at { false } else { true }
+}
+
+// The row at a place; all zero where the octets end before it does.
+pub fn row_at(s: &[u8], at: usize) -> Row
+    ensures { λ r. ⌜ r ≡ rowAt at (now (s .entry)) ⌝ }
+{
+    if has_row(s.len(), at) {} else {
+        return Row {
+            address: 0,
+            hold: 0,
+            left: 0,
+            state: 0,
+            exchange: 0,
+        };
+    }
+    Row {
+        address: long(s, at),
+        hold: word(s, at + 8),
+        left: half(s, at + 12),
+        state: s[at + 14],
+        exchange: s[at + 15],
+    }
+}
+
+// Stores a row at a place, where there is room for it.
+pub fn put_row(out: &mut [u8], at: usize, row: Row)
+    ensures { λ _. ⌜ now (out .exit) ≡ rowIn at row (now (out .entry)) ⌝ }
+{
+    if has_row(out.len(), at) {} else {
+        return;
+    }
+    put_u64(&mut *out, at, row.address);
+    put_u32(&mut *out, at + 8, row.hold);
+    put_u16(&mut *out, at + 12, row.left);
+    put_octet(&mut *out, at + 14, row.state);
+    put_octet(out, at + 15, row.exchange);
+}

@@ -1,0 +1,105 @@
+-- The octets of a table and its records: one another's inverse (`octets-of-records`, `records-of-octets`), what is read at a place, and
+-- what it is to store a record there.
+-- Assumes nothing.
+use mathlib.Core.Path.{_≡_, refl, ap, sym, _∙_}
+use mathlib.Core.Bool.{Bool, true, false, _&&_}
+use mathlib.Core.List.{List, [], _∷_, _++_, map, append-assoc, append-nil}
+use Prim.Native.Nat.{ℕ, zero, suc, _+_, _*_, _-_, _≤_, _<_}
+use native.Mathlib.Nat.{mul-suc, add-zero}
+use native.Mathlib.Numerals.{add-one}
+use native.Mathlib.Omega.{arith}
+use borrow.Author.Tests.{leb-true, eqb-true, le-leb}
+use lib.Dec.{leb, eqb}
+use lib.ListN.{length, getD, take, drop, set, length-append}
+use lib.Seq.{set-split, sets, sets-eq, take-add, drop-drop, take-all, drop-append-add, take-at, drop-at}
+use Rattle.octets.specs.Field.{octets, field}
+use Rattle.octets.specs.Row.{rowAt, rowIn, rowOctets}
+use Rattle.octets.specs.declared.row.Row.{Row}
+use Rattle.octets.proofs.Branch.{and-left, and-right}
+use Rattle.octets.proofs.RowTrip.{Octets, RowFits, octets-back, row-back}
+use Rattle.octets.proofs.Le.{length-octets}
+use Rattle.peer.specs.Record.{exchangeNumber, exchangeOf, freeOf}
+use Rattle.peer.specs.declared.record.Record.{Record}
+use Rattle.peer.specs.declared.record.Exchange.{Exchange}
+use Rattle.peer.specs.declared.record.Exchange.the-variants.{None, Asked, Awaiting, Sent}
+use Rattle.octets.specs.declared.heard.Kind.the-variants.{Authentication, Association, Reassociation}
+use Rattle.table.specs.Rows.{recordOf, rowOf, recordsAt, numberedAt, recordsOf, octetsOf, isTable}
+
+-- An exchange's number gives it back, and a number from 0 to 9 is its exchange's.
+exchange-back : (e : Exchange) → exchangeOf (exchangeNumber e) ≡ e
+unfolding exchangeOf
+exchange-back None = refl
+exchange-back (Asked Authentication) = refl
+exchange-back (Asked Association) = refl
+exchange-back (Asked Reassociation) = refl
+exchange-back (Awaiting Authentication) = refl
+exchange-back (Awaiting Association) = refl
+exchange-back (Awaiting Reassociation) = refl
+exchange-back (Sent Authentication) = refl
+exchange-back (Sent Association) = refl
+exchange-back (Sent Reassociation) = refl
+
+number-back : (n : ℕ) → n ≤ 9 → exchangeNumber (exchangeOf n) ≡ n
+unfolding exchangeOf
+number-back zero h = refl
+number-back (suc zero) h = refl
+number-back (suc (suc zero)) h = refl
+number-back (suc (suc (suc zero))) h = refl
+number-back (suc (suc (suc (suc zero)))) h = refl
+number-back (suc (suc (suc (suc (suc zero))))) h = refl
+number-back (suc (suc (suc (suc (suc (suc zero)))))) h = refl
+number-back (suc (suc (suc (suc (suc (suc (suc zero))))))) h = refl
+number-back (suc (suc (suc (suc (suc (suc (suc (suc zero)))))))) h = refl
+number-back (suc (suc (suc (suc (suc (suc (suc (suc (suc zero))))))))) h = refl
+number-back (suc (suc (suc (suc (suc (suc (suc (suc (suc (suc n)))))))))) h = absurd (not-le n h)
+  where
+    not-le : (n : ℕ) → suc (suc (suc (suc (suc (suc (suc (suc (suc (suc n))))))))) ≤ 9 → ⊥
+    not-le n h = omega arith
+
+pub record-back : (p : Record) → recordOf (rowOf p) ≡ p
+unfolding recordOf rowOf
+record-back p = rw (exchange-back (p .exchange))
+
+pub row-of-record : (r : Row) → leb (r .exchange) 9 ≡ true → rowOf (recordOf r) ≡ r
+unfolding recordOf rowOf
+row-of-record r h = rw (number-back (r .exchange) (leb-true (r .exchange) 9 h))
+
+pub length-row : (r : Row) → length (rowOctets r) ≡ 16
+unfolding rowOctets octets
+length-row r = refl
+
+pub length-records : (n k : ℕ) (xs : List ℕ) → length (recordsAt n k xs) ≡ n
+unfolding recordsAt
+length-records zero k xs = refl
+length-records (suc n) k xs = ap suc (length-records n (k + 16) xs)
+
+-- The record at a place.
+pub record-at : (n i k : ℕ) (xs : List ℕ) → i < n → getD (recordsAt n k xs) i freeOf ≡ recordOf (rowAt (k + 16 * i) xs)
+unfolding recordsAt
+record-at zero i k xs h = absurd (omega arith)
+record-at (suc n) zero k xs h = rw add-zero
+record-at (suc n) (suc i) k xs h =
+    let e : k + 16 + 16 * i ≡ k + 16 * suc i = omega arith in
+    record-at n i (k + 16) xs (omega arith) ∙ rw e
+
+module _ (xs : List ℕ) (h : Octets xs) where
+  -- Octets to records and back.
+  pub octets-at : (n k : ℕ) → k + 16 * n ≤ length xs → numberedAt n k xs ≡ true → octetsOf (recordsAt n k xs) ≡ take (16 * n) (drop k xs)
+  unfolding recordsAt numberedAt octetsOf
+  octets-at zero k r e = refl
+  octets-at (suc n) k r e =
+      let m : 16 * suc n ≡ 16 + 16 * n = omega arith in
+      rw (
+        row-of-record (rowAt k xs) (and-left (leb (rowAt k xs .exchange) 9) (numberedAt n (k + 16) xs) e),
+        octets-back xs h k (omega arith),
+        octets-at n (k + 16) (omega arith) (and-right (leb (rowAt k xs .exchange) 9) (numberedAt n (k + 16) xs) e),
+        m,
+        take-add,
+        drop-drop,
+      )
+
+  pub octets-of-records : isTable xs ≡ true → octetsOf (recordsOf xs) ≡ xs
+  unfolding isTable
+  octets-of-records e =
+      let l : length xs ≡ 512 = eqb-true (length xs) 512 (and-left (eqb (length xs) 512) (numberedAt 32 0 xs) e) in
+      octets-at 32 0 (omega arith) (and-right (eqb (length xs) 512) (numberedAt 32 0 xs) e) ∙ take-all 512 xs (omega arith)
