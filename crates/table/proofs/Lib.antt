@@ -23,3 +23,4 @@ pub mod RowLaws
 pub mod RowStores
 pub mod Views
 pub mod Marks
+pub mod HostLaws

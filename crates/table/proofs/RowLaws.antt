@@ -5,7 +5,7 @@ use mathlib.Core.Path.{_≡_, refl, ap, sym, _∙_}
 use mathlib.Core.Bool.{Bool, true, false, _&&_}
 use mathlib.Core.List.{List, [], _∷_, _++_, map, append-assoc, append-nil}
 use Prim.Native.Nat.{ℕ, zero, suc, _+_, _*_, _-_, _≤_, _<_}
-use native.Mathlib.Nat.{mul-suc, add-zero}
+use native.Mathlib.Nat.{add-zero, zero-add}
 use native.Mathlib.Numerals.{add-one}
 use native.Mathlib.Omega.{arith}
 use borrow.Author.Tests.{leb-true, eqb-true, le-leb}
@@ -81,6 +81,36 @@ record-at (suc n) zero k xs h = rw add-zero
 record-at (suc n) (suc i) k xs h =
     let e : k + 16 + 16 * i ≡ k + 16 * suc i = omega arith in
     record-at n i (k + 16) xs (omega arith) ∙ rw e
+
+past-the-end : (n i k : ℕ) (xs : List ℕ) → n ≤ i → getD (recordsAt n k xs) i freeOf ≡ freeOf
+unfolding recordsAt
+past-the-end zero i k xs h = refl
+past-the-end (suc n) zero k xs h = absurd (omega arith)
+past-the-end (suc n) (suc i) k xs h = past-the-end n i (k + 16) xs (omega arith)
+
+pub at-place : (i : ℕ) (xs : List ℕ) → i < 32 → recordOf (rowAt (16 * i) xs) ≡ getD (recordsOf xs) i freeOf
+at-place i xs h = sym (record-at 32 i 0 xs h ∙ rw zero-add)
+
+pub no-place : (i : ℕ) (xs : List ℕ) → 32 ≤ i → freeOf ≡ getD (recordsOf xs) i freeOf
+no-place i xs h = sym (past-the-end 32 i 0 xs h)
+
+-- The numbers from one place on: its own, and those behind it.
+pub numbered-step : (i : ℕ) (xs : List ℕ) → i < 32 → numberedAt (32 - i) (16 * i) xs ≡ (leb (rowAt (16 * i) xs .exchange) 9 && numberedAt (32 - (i + 1)) (16 * (i + 1)) xs)
+unfolding numberedAt
+numbered-step i xs h =
+    let m : 32 - i ≡ suc (32 - (i + 1)) = omega arith in
+    let k : 16 * (i + 1) ≡ 16 * i + 16 = omega arith in
+    rw (m, k)
+
+pub numbered-end : (i : ℕ) (xs : List ℕ) → 32 ≤ i → numberedAt (32 - i) (16 * i) xs ≡ true
+unfolding numberedAt
+numbered-end i xs h =
+    let m : 32 - i ≡ 0 = omega arith in
+    rw m
+
+pub table-long : (xs : List ℕ) → isTable xs ≡ true → length xs ≡ 512
+unfolding isTable
+table-long xs e = eqb-true (length xs) 512 (and-left (eqb (length xs) 512) (numberedAt 32 0 xs) e)
 
 module _ (xs : List ℕ) (h : Octets xs) where
   -- Octets to records and back.

@@ -11,6 +11,7 @@ pub mod Pass
 pub mod Step
 pub mod Lent
 pub mod Rows
+pub mod Host
 pub mod Marked
 pub mod Exactly
 pub mod Written

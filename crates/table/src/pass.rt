@@ -23,7 +23,7 @@ pub struct Clocked {
 }
 
 // Writes the report of a place, if an exchange ended there, and gives where the next goes.
-fn put_report(out: &mut [u8], n: usize, place: u8, kind: u8, address: u64) -> usize
+pub(crate) fn put_report(out: &mut [u8], n: usize, place: u8, kind: u8, address: u64) -> usize
     requires { ⌜ n + 8 ≤ length (now out) ⌝ }
     ensures { λ r. ⌜ (r ≡ n + length (reportFor place kind address)) × (now (out .exit) ≡ sets (now (out .entry)) n (reportFor place kind address)) ⌝ }
 {

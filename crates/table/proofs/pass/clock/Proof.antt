@@ -2,7 +2,7 @@
 -- Assumes nothing.
 use Prim.Native.Nat.{_-_, ℕ}
 use Rattle.peer.specs.Record.{freeOf}
-use Rattle.table.proofs.Ticks.{Kept, kept-bytes, kept-count, kept-rows, kept-step, report-short}
+use Rattle.table.proofs.Ticks.{Kept, kept-rows, kept-step, report-short, told-bytes, told-count, told-none}
 use Rattle.table.specs.Pass.{clockedOf, reportFor}
 use borrow.Author.Needs.{needs}
 use lib.ListN.{getD}
@@ -20,7 +20,7 @@ abbrev μ-loop : tie.MeasureT-loop
 μ-loop s d out₀ next₀ n₀ i₀ out next n i = 32 - i
 
 loop-holds : tie.Need-loop-holds Inv-loop μ-loop
-loop-holds c = record { place = search needs; long = search needs; same = refl; low = search needs; rows = refl; count = omega arith; bytes = refl }
+loop-holds c = record { told = told-none _ _ _ _ (search needs); long = search needs; rest = refl; rows = refl }
 
 mul-p : tie.Need-mul-p Inv-loop μ-loop
 mul-p c = search needs
@@ -59,14 +59,14 @@ cast-t22 : tie.Need-cast-t22 Inv-loop μ-loop
 cast-t22 c = search needs
 
 same-length : tie.Need-same-length Inv-loop μ-loop
-same-length c = c .before .loop .inv .same
+same-length c = c .before .loop .inv .told .same
 
 returns : tie.Need-returns Inv-loop μ-loop
 unfolding clockedOf
 returns c =
     let k = c .before .loop .inv in
     let over = c .loop-test .left in
-    (rw (← kept-rows _ _ _ _ _ _ _ _ k over, ← kept-count _ _ _ _ _ _ _ _ k over), kept-bytes _ _ _ _ _ _ _ _ k over)
+    (rw (← kept-rows _ _ _ _ _ _ _ _ k over, ← told-count _ _ _ _ _ _ _ (k .told) over), told-bytes _ _ _ _ _ _ _ (k .told) over)
 
 pub clock-spec : {M : Type 1} → statement M
 clock-spec =

@@ -1,0 +1,24 @@
+-- `table::host::asked_in` meets its contract: each answer by the tests that led to it and what its callees ensure.
+-- Assumes nothing.
+use Rattle.table.specs.Ask.{askedAt}
+use Rattle.table.specs.Rows.{recordsOf}
+use borrow.Author.Needs.{needs}
+use denote.Ref.{now}
+use Rattle.table.proofs.host.asked_in.Statement.{statement}
+use Rattle.table.proofs.host.asked_in.Tie as tie
+
+find-requires : tie.Need-find-requires
+find-requires c κs = search needs
+
+peer-at-requires : tie.Need-peer-at-requires
+peer-at-requires c κs = search needs
+
+asked-at-requires : tie.Need-asked-at-requires
+asked-at-requires c κs = search needs
+
+returns : tie.Need-returns
+unfolding askedAt
+returns c = λ e. rw (← e, ← c .before .before .find .ensures, ← c .before .peer-at .ensures) (c .asked-at .ensures (recordsOf (now (c .before .before .before .before .before .args .table))))
+
+pub asked-in-spec : {M : Type 1} → statement M
+asked-in-spec = tie.close (tie.spec find-requires peer-at-requires asked-at-requires returns)
