@@ -2,7 +2,8 @@
 -- Assumes nothing.
 use Prim.Native.Nat.{ℕ, _+_}
 use mathlib.Core.List.{List, [], _∷_, _++_}
-use lib.Dec.{leb}
+use mathlib.Core.Bool.{Bool, _&&_}
+use lib.Dec.{leb, eqb}
 use lib.ListN.{length}
 use lib.Seq.{sets}
 use Rattle.octets.specs.Pick.{pick}
@@ -18,6 +19,10 @@ rowAt k xs =
     pick (leb (k + 16) (length xs))
     (record { address = field 8 k xs; hold = field 4 (k + 8) xs; left = field 2 (k + 12) xs; state = field 1 (k + 14) xs; exchange = field 1 (k + 15) xs })
     noRow
+
+-- Whether the 16 octets at place k are there and all zero.
+unfoldable pub blankAt : ℕ → List ℕ → Bool
+blankAt k xs = leb (k + 16) (length xs) && (eqb (field 8 k xs) 0 && eqb (field 8 (k + 8) xs) 0)
 
 -- The octets of a row.
 unfoldable pub rowOctets : Row → List ℕ

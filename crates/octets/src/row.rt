@@ -8,7 +8,7 @@ ghost use Prim.Native.Nat.{_+_, _≤_};
 ghost use lib.Dec.{leb};
 ghost use lib.ListN.{length};
 ghost use Rattle.octets.specs.Field.{field};
-ghost use Rattle.octets.specs.Row.{rowAt, rowIn};
+ghost use Rattle.octets.specs.Row.{blankAt, rowAt, rowIn};
 
 pub struct Row {
     pub address: u64,
@@ -74,6 +74,19 @@ pub fn row_at(s: &[u8], at: usize) -> Row
         state: s[at + 14],
         exchange: s[at + 15],
     }
+}
+
+// Whether the 16 octets at a place are there and all zero: two numbers to look at, where a row has five.
+pub fn blank_at(s: &[u8], at: usize) -> bool
+    ensures { λ r. ⌜ r ≡ blankAt at (now (s .entry)) ⌝ }
+{
+    if has_row(s.len(), at) {} else {
+        return false;
+    }
+    if long(s, at) != 0 {
+        return false;
+    }
+    long(s, at + 8) == 0
 }
 
 // Stores a row at a place, where there is room for it.

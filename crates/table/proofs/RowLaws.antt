@@ -13,10 +13,10 @@ use lib.Dec.{leb, eqb}
 use lib.ListN.{length, getD, take, drop, set, length-append}
 use lib.Seq.{set-split, sets, sets-eq, take-add, drop-drop, take-all, drop-append-add, take-at, drop-at}
 use Rattle.octets.specs.Field.{octets, field}
-use Rattle.octets.specs.Row.{rowAt, rowIn, rowOctets}
+use Rattle.octets.specs.Row.{blankAt, rowAt, rowIn, rowOctets}
 use Rattle.octets.specs.declared.row.Row.{Row}
 use Rattle.octets.proofs.Branch.{and-left, and-right}
-use Rattle.octets.proofs.RowTrip.{Octets, RowFits, octets-back, row-back}
+use Rattle.octets.proofs.RowTrip.{Octets, RowFits, blank-row, octets-back, row-back}
 use Rattle.octets.proofs.Le.{length-octets}
 use Rattle.peer.specs.Record.{exchangeNumber, exchangeOf, freeOf}
 use Rattle.peer.specs.declared.record.Record.{Record}
@@ -107,6 +107,14 @@ unfolding numberedAt
 numbered-end i xs h =
     let m : 32 - i ≡ 0 = omega arith in
     rw m
+
+-- A place whose octets are all zero is free, and has a number.
+pub blank-free : (i : ℕ) (xs : List ℕ) → i < 32 → blankAt (16 * i) xs ≡ true → getD (recordsOf xs) i freeOf ≡ freeOf
+unfolding recordOf exchangeOf
+blank-free i xs h e = sym (at-place i xs h) ∙ ap recordOf (blank-row (16 * i) xs e)
+
+pub blank-numbered : (i : ℕ) (xs : List ℕ) → i < 32 → blankAt (16 * i) xs ≡ true → numberedAt (32 - i) (16 * i) xs ≡ numberedAt (32 - (i + 1)) (16 * (i + 1)) xs
+blank-numbered i xs h e = numbered-step i xs h ∙ rw (blank-row (16 * i) xs e)
 
 pub table-long : (xs : List ℕ) → isTable xs ≡ true → length xs ≡ 512
 unfolding isTable

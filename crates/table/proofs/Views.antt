@@ -4,13 +4,14 @@ use mathlib.Core.Path.{_≡_, refl, sym, _∙_}
 use mathlib.Core.Bool.{Bool, true, false, _&&_, _||_}
 use mathlib.Core.List.{List, _++_, map}
 use Prim.Native.Nat.{ℕ, _+_, _<_, _≤_}
+use native.Mathlib.Nat.{add-zero}
 use native.Mathlib.Omega.{arith}
 use lib.Dec.{eqb, leb}
 use lib.ListN.{length, take, drop, getD, set, length-set}
 use borrow.Author.Tests.{eqb-true, eqb-false, eq-eqb, ne-eqb}
 use Rattle.octets.specs.Pick.{pick}
 use Rattle.peer.specs.Fit.{placeFits}
-use Rattle.peer.specs.Record.{isJoined, associates, freeOf}
+use Rattle.peer.specs.Record.{isFree, isJoined, associates, freeOf}
 use Rattle.peer.specs.Settings.{ap, settingsFit}
 use Rattle.peer.specs.declared.settings.Settings.{Settings}
 use Rattle.peer.specs.declared.record.Record.{Record}
@@ -114,6 +115,19 @@ module _ (s : Settings) (t : List Record) (addresses : List ℕ) (fit : Bool) (c
           let j0 : crowd′ .joined ≡ crowd .joined + 0 = rw q at j in
           let o : eqb (crowd .joined) 0 ≡ true = eq-eqb (crowd .joined) 0 (omega (arith, j0, z)) in
           rw (q, o) (v .none o)
+
+  -- a free place more
+  pub viewed-free : i < 32 → getD t i freeOf ≡ freeOf → Viewed s t (set addresses i 0) fit crowd associated (i + 1)
+  unfolding placeFits isFree isJoined associates countedOf
+  viewed-free h e =
+      viewed-more h freeOf (sym e) fit (sym (and-true fit)) crowd
+      (λ n. record { joined = sym (add-zero (crowd .joined)) n; associating = sym (add-zero (crowd .associating)) n })
+      associated
+      (still (eqb (crowd .joined) 0))
+    where
+      still : (b : Bool) → associated ≡ pick (b && false) 0 associated
+      still true = refl
+      still false = refl
 
   -- after the last
   pub viewed-all : 32 ≤ i → Sees s t (record { fit = fit; crowd = crowd; associated = associated; addresses = addresses })

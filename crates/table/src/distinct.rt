@@ -19,11 +19,11 @@ fn unused_from(addresses: &[u64], a: u64, from: usize) -> bool
     true
 }
 
-// The mark of an address, its last octet: the one in which peers differ most often.
+// The mark of an address. Addresses that differ in one octet, by less than 251, have different marks.
 fn mark(a: u64) -> usize
     ensures { λ r. ⌜ r ≡ markOf a ⌝ }
 {
-    (a / 1099511627776 % 256) as usize
+    (a % 251) as usize
 }
 
 // Whether no place from one on has an address, where it may: none has it if none has its mark.

@@ -8,6 +8,7 @@ use crate::pass::put_report;
 use crate::places::Found;
 use crate::seat::Change;
 use octets::row::Row;
+use octets::row::blank_at;
 use octets::row::put_row;
 use octets::row::row_at;
 use peer::association::parted;
@@ -91,10 +92,23 @@ pub fn peer_at(table: &[u8], at: Found, address: u64) -> Record
     }
 }
 
-// What one pass finds. Whether each place fits covers its exchange's number.
-pub fn survey(s: Settings, table: &[u8]) -> View
+// What one pass finds. Whether each place fits covers its exchange's number. A free place, all zero, is passed over.
+pub(crate) fn survey(s: Settings, table: &[u8]) -> View
+    requires { ⌜ length (now table) ≡ 512 ⌝ }
     ensures { λ r. ⌜ (r .fit ≡ (numberedAt 32 0 (now (table .entry)) && allOf (placeFits s) (recordsOf (now (table .entry))))) × (r .crowd ≡ crowdOf (recordsOf (now (table .entry)))) × (r .associated ≡ associatedOf (recordsOf (now (table .entry)))) × (r .addresses ≡ addressesOf (recordsOf (now (table .entry)))) ⌝ }
 {
+    // Never so, by the contract. It tells the compiler the length: no row is tested for room.
+    if table.len() != 512 {
+        return View {
+            fit: false,
+            crowd: Counts {
+                joined: 0,
+                associating: 0,
+            },
+            associated: 0,
+            addresses: [0u64; 32],
+        };
+    }
     let mut addresses = [0u64; 32];
     let mut numbered = true;
     let mut fit = true;
@@ -105,14 +119,19 @@ pub fn survey(s: Settings, table: &[u8]) -> View
     let mut associated = 0;
     let mut i = 0;
     while i < 32 {
-        let r = row_at(table, 16 * i);
-        let p = record_of(r);
-        numbered = both(numbered, r.exchange <= 9);
-        fit = both(fit, place_fits(s, p));
-        associated = first_joined(crowd.joined, associated, p);
-        crowd = crowd_with(crowd, p);
-        addresses[i] = p.address;
+        let at = i;
         i += 1;
+        if blank_at(table, 16 * at) {
+            addresses[at] = 0;
+        } else {
+            let r = row_at(table, 16 * at);
+            let p = record_of(r);
+            numbered = both(numbered, r.exchange <= 9);
+            fit = both(fit, place_fits(s, p));
+            associated = first_joined(crowd.joined, associated, p);
+            crowd = crowd_with(crowd, p);
+            addresses[at] = p.address;
+        }
     }
     View {
         fit: both(numbered, fit),
