@@ -24,3 +24,4 @@ pub mod RowStores
 pub mod Views
 pub mod Marks
 pub mod HostLaws
+pub mod RecordTrip
