@@ -7,6 +7,7 @@ pub mod RefusedExactly
 pub mod RefusedKeeps
 pub mod WrittenCount
 pub mod Timeouts
+pub mod Well
 pub mod StepKeeps
 pub mod AnyOrder
 pub mod OwnRecord
