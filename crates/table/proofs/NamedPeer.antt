@@ -24,10 +24,11 @@ use Rattle.table.specs.Ask.{mayAsk}
 use Rattle.table.specs.Order.{Coming, frame, primitive, Handed, readPeer, comingPeer, peerNamed}
 use Rattle.table.specs.declared.read.Reading.the-variants.{Refused, Admitted}
 
+-- an event that names nobody names no peer
 pub nobody : {P : Type 0} {a : ℕ} → none ≡ some a → P
 nobody e = let z : _≡_ {A = ℕ} 0 1 = cc in absurd (omega arith)
 
--- the peer that an event names is valid, so its address is not 0
+-- an address that is valid is not 0
 valid-some : (a : ℕ) → validOf a ≡ true → eqb a 0 ≡ false
 unfolding validOf
 valid-some a v = not-true (eqb a 0) (and-left (not (eqb a 0)) (leb a 281474976710655 && eqb (a % 2) 0) v)
