@@ -1,9 +1,12 @@
 -- `table::receive::received` meets its contract: each answer by the tests that led to it and what its callees ensure.
 -- Assumes nothing.
-use Rattle.octets.proofs.Branch.{tests}
+use Prim.Native.Nat.{_≤_}
+use Rattle.octets.specs.Frame.{longest}
 use Rattle.table.specs.Receive.{receivedOf}
 use borrow.Author.Needs.{needs}
-use borrow.Author.Tests.{le-ltb}
+use borrow.Author.Tests.{le-ltb, lt-ltb}
+use native.Mathlib.Nat.{lt-of-lt-of-le}
+use native.Mathlib.Omega.{arith}
 use Rattle.table.proofs.receive.received.Statement.{statement}
 use Rattle.table.proofs.receive.received.Tie as tie
 
@@ -12,7 +15,7 @@ refused-requires c κs = search needs
 
 returns : tie.Need-returns
 unfolding receivedOf
-returns c = search (tests, ← c .refused .ensures)
+returns c = rw (lt-ltb _ longest (lt-of-lt-of-le (c .before .if1 .taken) (omega arith))) (c .refused .ensures)
 
 check-requires : tie.Need-check-requires
 check-requires c κs = search needs
@@ -22,7 +25,9 @@ refused-requires-2 c κs = search needs
 
 returns-2 : tie.Need-returns-2
 unfolding receivedOf
-returns-2 c = rw (le-ltb _ _ (c .before .before .before .if1 .left), ← c .before .before .check .ensures .0, c .before .if2 .left) (c .refused2 .ensures)
+returns-2 c =
+    let room : longest ≤ c .before .before .before .before .before .args .room = omega arith in
+    rw (le-ltb _ _ room, ← c .before .before .check .ensures .0, c .before .if2 .left) (c .refused2 .ensures)
 
 slice-aggregate-heard-at : tie.Need-slice-aggregate-heard-at
 slice-aggregate-heard-at c = search needs
