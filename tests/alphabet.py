@@ -1,4 +1,4 @@
-"""The alphabet of events: every frame kind, primitive and clock step, each with the name of its cause.
+"""The alphabet of events: every frame kind, primitive and clock step, and the name of its cause.
 
 Events of one name must do the same to a state, so the names are as fine as the rules: the status
 is 0 or not, the AID is in range or not, a frame is to our own address or to a group.

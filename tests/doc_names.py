@@ -1,14 +1,17 @@
-"""The names in README.md and docs/: files that are linked or named, names beside their file, functions and their definitions."""
+"""The names in README.md and docs/: files, links, names beside their file, promised functions."""
 
 import re
 
 import names
 
-DOCUMENTS = ("README.md", "docs/DECISIONS.md", "docs/PROMISES.md", "docs/READING.md", "docs/TRACE.md")
+DOCUMENTS = ("README.md", "docs/DECISIONS.md", "docs/PROMISES.md", "docs/READING.md",
+             "docs/TRACE.md")
 LINK = re.compile(r"\]\(([^)#\s]+)\)")
 # A path, and perhaps a name of it: `crates/peer/specs/Filter.antt: passesOf`.
-PLACE = re.compile(r"((?:crates/)?(?:octets|peer|table|bench)/(?:specs|proofs|src)/[\w/]+\.(?:antt|rt))(?:: ([\w-]+))?")
+PLACE = re.compile(r"((?:crates/)?(?:octets|peer|table|bench)/(?:specs|proofs|src)/"
+                   r"[\w/]+\.(?:antt|rt))(?:: ([\w-]+))?")
 BETWEEN = (", ", " and ", ": ", ",\n", " to ")
+WORD = re.compile(r"[\w-]+")
 LIBRARY = ("getD",)
 FILE = re.compile(r"[\w./-]+/[\w.-]+\.(?:antt|rt|py|txt|md|svg|c|h)")
 CAMEL = re.compile(r"[a-z]+[a-z0-9]*(?:[A-Z][A-Za-z0-9]*)+")
@@ -33,7 +36,7 @@ def beside_a_file(text):
                 yield f"there is no {found.group(1)}"
             elif found.group(2):
                 yield from names.missing_names(path, [found.group(2)])
-        elif path and text[end:token.start()] in BETWEEN and re.fullmatch(r"[\w-]+", token.group(1)):
+        elif path and text[end:token.start()] in BETWEEN and WORD.fullmatch(token.group(1)):
             yield from names.missing_names(path, [token.group(1)])
         else:
             path = None
@@ -41,7 +44,8 @@ def beside_a_file(text):
 
 
 def anywhere(text):
-    """Links and paths lead to a file; a definition's name is defined, a function's or an edit's too."""
+    """Links and paths lead to a file, and what is named like a definition, a theorem, a function,
+    an edit or a case is one."""
     for target in LINK.findall(text):
         if not target.startswith("http") and not any(
                 (names.ROOT / folder / target).exists() for folder in (".", "docs")):
@@ -63,8 +67,8 @@ def anywhere(text):
 
 
 def promised(text):
-    """The tables of docs/PROMISES.md: a function stands in its module, and what it gives is defined
-    in a file named at the module's head or in its own row; the last column has the crate's edits."""
+    """The tables of docs/PROMISES.md: a function stands in its module, what it gives is defined in
+    a file named at the module's head or in its own row, and its faults are the crate's edits."""
     crate, module, heads = None, None, []
     for line in text.splitlines():
         section = re.match(r"## `(\w+)`", line)
@@ -102,7 +106,7 @@ def reading_order(text):
             yield f"{names.shown(path)} has no place in the order of reading"
     said = IN_ALL.search(text)
     if not said or int(said.group(1)) != total:
-        yield f"the minutes add up to {total}, and 'In all' says {said.group(1) if said else 'nothing'}"
+        yield f"the minutes add up to {total}; 'In all' says {said.group(1) if said else 'nothing'}"
 
 
 OWN_CHECKS = {"docs/PROMISES.md": (promised,), "docs/READING.md": (reading_order,)}

@@ -1,4 +1,6 @@
-"""Compares docs/pictures/moves.txt with every move that a program makes: moves.py --bench CMD [--trace WORD].
+"""Compares docs/pictures/moves.txt with every move that a program makes.
+
+moves.py --bench CMD [--trace WORD]
 
 The moves are derived by trying every event in every situation (situations.py). A move that the
 program makes and the list has not, or the other way round, is named; so is a class of frames that
@@ -22,7 +24,7 @@ PROBES = {"type 0 subtype 8": 1, "Disassociation": 2, "type 2 subtype 0": 3}
 
 def expanded(lines):
     """The listed moves, one for each RSNA and each hold."""
-    return {situations.Move(line.role, rsna, line.before, line.after, line.ds, hold, line.by, line.cause)
+    return {situations.Move(*line._replace(rsna=rsna, hold=hold))
             for line in lines for rsna in line.rsna for hold in line.hold}
 
 
@@ -81,7 +83,8 @@ def main():
                for state, klass in sorted(passes ^ in_list)]
     for fault in faults:
         print(fault)
-    print(f"{counts[0]} situations, {counts[1]} events tried, {len(made)} moves, {len(faults)} faults")
+    print(f"{counts[0]} situations, {counts[1]} events tried, {len(made)} moves, "
+          f"{len(faults)} faults")
     sys.exit(1 if faults else 0)
 
 

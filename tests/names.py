@@ -1,4 +1,4 @@
-"""Where a name of the documents is defined: definitions and theorems, code, stored cases and must-fail edits."""
+"""Where a name of the documents is defined: specs, proofs, code, stored cases, must-fail edits."""
 
 import functools
 import pathlib

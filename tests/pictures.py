@@ -1,4 +1,6 @@
-"""Plays the scenes of the message charts and checks the pictures: pictures.py --bench CMD [--trace WORD].
+"""Plays the scenes of the message charts and checks the pictures.
+
+pictures.py --bench CMD [--trace WORD]
 
 Each step's line, the octets written and the peer's hold must be the scene's; in the join the octets
 that one side hears are those that the other wrote. The pictures in docs/pictures must be what
@@ -10,6 +12,7 @@ import pathlib
 import shlex
 import sys
 
+import bench_input
 import situations
 
 sys.path.insert(0, str(pathlib.Path(__file__).resolve().parent.parent / "tools" / "pictures"))
@@ -40,18 +43,20 @@ def played(name, steps, side, command):
                                   ("octets", step.sent.hex(), octets),
                                   ("hold", [str(step.hold)], holds)):
             if wanted != got:
-                faults.append(f"{name}, {side}, step {number}: {what} {wanted} in the chart, {got} by the program")
+                faults.append(f"{name}, {side}, step {number}: the chart has {what} {wanted}, "
+                              f"the program {got}")
     return faults
 
 
 def unsent(name, steps):
     """Frames of a scene with two sides that the other side's table did not write: only those
     that no table writes, ACK and data."""
-    written = {step.sent for step in steps}
     if {step.side for step in steps} != set(EVERY_SIDE):
         return []
-    return [f"{name}: a frame is heard that nobody wrote: {step.event[1].hex()}" for step in steps
-            if step.event[0] == "hear" and step.event[1] not in written and step.event[1][0] >> 2 & 3 == 0]
+    written = {step.sent for step in steps}
+    heard = [step.event[1] for step in steps if step.event[0] == "hear"]
+    return [f"{name}: a frame is heard that nobody wrote: {octets.hex()}" for octets in heard
+            if octets not in written and octets[0] >> 2 & 3 == bench_input.MANAGEMENT]
 
 
 def main():

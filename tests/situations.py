@@ -1,4 +1,4 @@
-"""Every situation that a program's table can come to with two peers, and every move of a state on the way.
+"""Every situation that a table can come to with two peers, and every move of a state on the way.
 
 A situation is what the two records hold: state, exchange, and whether a hold runs. From the empty
 table each event of the alphabet is tried in each situation found so far, until none is new. The
@@ -109,11 +109,22 @@ def hold_set(turn, before, after):
     return "1954" if after.hold == USUAL_HOLD else f"{after.hold}?"
 
 
+def clock_cause(step, before, after):
+    """What a clock step found: an exchange that ran out, or none; for a record that is freed, a hold
+    that is over, or not."""
+    if before.left and before.left <= step:
+        why = f"{KINDS.get(before.exchange, 'an exchange of an AP')} timed out"
+    else:
+        why = "exchange under way" if before.exchange else "no exchange"
+    if after.state:
+        return why
+    return why + (", no hold left" if before.hold <= step else ", a hold left")
+
+
 def cause_of(turn, address, before, after):
     """The event's name, as the record with this address sees it."""
     if turn.event.by == "clock":
-        why = f"{KINDS[before.exchange]} timed out" if before.left else "no exchange"
-        return why + (", no hold left" if after.state == 0 else "")
+        return clock_cause(int(turn.event.cause.split()[0]), before, after)
     if turn.event.about == address:
         return turn.event.cause
     return f"{turn.event.cause}, {'from' if turn.event.by == 'frame' else 'to'} another AP"
@@ -129,7 +140,7 @@ def moves_of(turn, role, rsna):
 
 
 def one_cause_one_outcome(turns):
-    """Events of one name do the same to both states in the same situation; the first that do not."""
+    """Events of one name do the same to both states in one situation; the first that do not."""
     seen = {}
     for turn in turns:
         key = (situation(turn.before), turn.event.by, turn.event.cause, turn.event.about)

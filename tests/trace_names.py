@@ -1,8 +1,8 @@
-"""Checks every name in docs/TRACE.md, and those in the other documents (doc_names.py): trace_names.py.
+"""Checks every name in docs/TRACE.md, and those in the other documents (doc_names.py).
 
 A row has a rule, what defines it and what exercises it; how it names things is said at the head of
-docs/TRACE.md. The name must be defined in that file, and the case, edit or test must be there. Every
-row names something in both columns or says `to come`; every case and every edit stands in some row.
+docs/TRACE.md. A name must be defined in its file, and a case, edit or test must be there. Every row
+names something in both columns or says `to come`; every case and every edit stands in some row.
 """
 
 import re
@@ -85,8 +85,9 @@ def main():
             for word, token in found:
                 faults += [f"TRACE.md, line {number}: {fault}" for fault in check(word, token)]
                 used.get(word, set()).add(token)
-    faults += [f"TRACE.md: no row names the case `{name}`" for name in sorted(names.cases() - used["case"])]
-    faults += [f"TRACE.md: no row names the edit `{name}`" for name in sorted(names.edits() - used["edit"])]
+    for what, there_are in (("case", names.cases()), ("edit", names.edits())):
+        faults += [f"TRACE.md: no row names the {what} `{name}`"
+                   for name in sorted(there_are - used[what])]
     faults += doc_names.faults()
     for fault in faults:
         print(fault)

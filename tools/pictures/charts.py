@@ -1,4 +1,4 @@
-"""Message charts: who says what to whom, from the top down, drawn from a scene's steps and answers."""
+"""Message charts: who says what to whom, drawn from a scene's steps and answers."""
 
 import collections
 
@@ -38,7 +38,8 @@ class Chart:
     def names(self, ends):
         """The lifelines, down to `ends`, each with its name in a box."""
         for x, name in self.lifelines.items():
-            self.canvas.line([(x, self.top - 16), (x, ends)], "#afb8c1", True, False, True, True)
+            self.canvas.line([(x, self.top - 16), (x, ends)], "#afb8c1", dashed=True,
+                             head=False, thin=True, under=True)
             wide = width_of(name, 12.5, True) + 22
             self.canvas.rectangle(x - wide / 2, self.top - 46, wide, 30, "#eff2f5", "#8c959f")
             self.canvas.text(x, self.top - 26.5, name, anchor="middle", bold=True, over=True)
@@ -64,11 +65,13 @@ class Chart:
         self.canvas.rectangle(x - wide / 2, self.y, wide, 22, fill, "#8c959f", 11)
         if kind:
             mark(self.canvas, kind, x - wide / 2 + 14, self.y + 11)
-        self.canvas.text(x + (9 if kind else 0), self.y + 15.2, words, 11.5, "middle", True, over=True)
+        self.canvas.text(x + (9 if kind else 0), self.y + 15.2, words, 11.5, "middle", True,
+                         over=True)
         self.y += 18
 
     def state_badge(self, x, state, hold):
-        self.badge(x, f"State {state}" + (f", hold {hold} TU" if self.show_hold else ""), FILLS[state])
+        words = f"State {state}" + (f", hold {hold} TU" if self.show_hold else "")
+        self.badge(x, words, FILLS[state])
 
 
 def event_message(chart, lines, step, heard):
@@ -104,8 +107,8 @@ def part(chart, name):
     """A part of the chart begins: a line across, and its name at the left edge."""
     if chart.y > chart.top:
         chart.y += 16
-        chart.canvas.line([(22, chart.y), (chart.canvas.width - 22, chart.y)], "#d8dee4", False, False,
-                          True, True)
+        chart.canvas.line([(22, chart.y), (chart.canvas.width - 22, chart.y)], "#d8dee4",
+                          head=False, thin=True, under=True)
     chart.canvas.text(22, chart.y + 28, name, 11.5, bold=True, fill=MUTED)
 
 
@@ -135,8 +138,8 @@ def titled(width, title, about):
 
 
 def join():
-    canvas = titled(1100, "A join", "A station and an access point that does not require RSNA, each with its own "
-                    "table: what one writes the other hears, octet for octet.")
+    canvas = titled(1100, "A join", "A station and an access point that does not require RSNA, "
+                    "each with its own table: what one writes the other hears, octet for octet.")
     own_s, table_s, table_a, own_a = 176, 428, 730, 1006
     chart = Chart(canvas, {own_s: "Station's own side", table_s: "Station's table",
                            table_a: "Access point's table", own_a: "AP's own side"})
@@ -150,7 +153,8 @@ def join():
 def remark(canvas, y):
     """What a rejection without the element does, by the scene that is played for it."""
     canvas.rectangle(34, y, 500, 92, "#f6f8fa", "#d8dee4", 8)
-    lines = (f"Without a comeback the hold is {NO_COMEBACK[-1].hold:,} TU, a little over 2 s, for any status.",
+    hold = NO_COMEBACK[-1].hold
+    lines = (f"Without a comeback the hold is {hold:,} TU, a little over 2 s, for any status.",
              "A comeback of 0 is a time like any other. The module before this one",
              "took it for no time given, and held without end.")
     for at, words in enumerate(lines):
@@ -158,8 +162,9 @@ def remark(canvas, y):
 
 
 def comeback():
-    canvas = titled(1100, "Rejected, and asked to come back", "A station in State 2, authenticated with an "
-                    "access point, asks to associate. The comeback is how long it must wait.")
+    canvas = titled(1100, "Rejected, and asked to come back", "A station in State 2, authenticated "
+                    "with an access point, asks to associate. The comeback is how long it "
+                    "must wait.")
     for left, title, steps in ((0, "Comeback 0: it may ask again at once", COMEBACK_0),
                                (550, "Comeback 5 TU: refused until they have passed", COMEBACK_5)):
         canvas.text(left + 34, 104, title, 14.5, bold=True)

@@ -1,4 +1,4 @@
-"""Blocks of labels: one line a cause, each with a mark that says whether a frame, a primitive or the clock is the cause."""
+"""Blocks of labels: one line a cause, with a mark for a frame, a primitive or the clock."""
 
 import collections
 
@@ -8,7 +8,7 @@ LINE = 19
 TEXT_AT = 25
 LONGEST = 40
 
-# mark: `frame`, `primitive-N`, `clock`, `heading` or None; tag: a word in another colour behind it, or None.
+# mark: `frame`, `primitive-N`, `clock`, `heading` or None; tag: a word in another colour behind.
 Label = collections.namedtuple("Label", "mark words tag", defaults=(None,))
 
 
@@ -17,7 +17,8 @@ def mark(canvas, kind, x, y):
     if kind == "frame":
         canvas.put("circle", cx=float(x), cy=float(y), r=5, fill=BLUE)
     elif kind == "clock":
-        canvas.put("circle", cx=float(x), cy=float(y), r=5.5, fill=PAPER, stroke=MUTED, stroke_width=1.4)
+        canvas.put("circle", cx=float(x), cy=float(y), r=5.5, fill=PAPER, stroke=MUTED,
+                   stroke_width=1.4)
         canvas.put("path", d=f"M{x:g} {y - 3.5:g}V{y:g}H{x + 3:g}", fill="none", stroke=MUTED,
                    stroke_width=1.4)
     elif kind:

@@ -1,4 +1,4 @@
-"""Makes the pictures of docs/pictures: make.py writes them, make.py --check names those that are not as they would be made."""
+"""Makes the pictures of docs/pictures; with --check it names those that are otherwise."""
 
 import sys
 
@@ -22,7 +22,7 @@ def pictures():
 
 
 def stale():
-    """Each picture in the folder that is missing, other than it would be made, or made by nothing."""
+    """Each picture that is missing, other than it would be made, or made by nothing."""
     made = pictures()
     there = {path.name: path.read_text() for path in FOLDER.glob("*.svg")}
     return sorted(name for name in made.keys() | there.keys() if made.get(name) != there.get(name))
@@ -32,7 +32,8 @@ def main():
     if sys.argv[1:] not in ([], ["--check"]):
         sys.exit("pictures: the only argument is --check")
     if sys.argv[1:]:
-        sys.exit("".join(f"pictures: {name} is not as tools/pictures/make.py makes it\n" for name in stale()))
+        sys.exit("\n".join(f"pictures: {name} is not as tools/pictures/make.py makes it"
+                           for name in stale()) or 0)
     for name, text in pictures().items():
         (FOLDER / name).write_text(text)
 

@@ -1,4 +1,4 @@
-"""Reads docs/pictures/moves.txt: the moves of a peer's state, and the classes that pass in each state."""
+"""Reads docs/pictures/moves.txt: the moves of a state, and the classes that pass in each state."""
 
 import collections
 import pathlib
@@ -21,7 +21,8 @@ class Fault(Exception):
 
 def one_of(number, what, word, choices):
     if word not in choices:
-        raise Fault(f"{LIST.name}, line {number}: {what} is '{word}', not one of {', '.join(choices)}")
+        raise Fault(f"{LIST.name}, line {number}: {what} is '{word}', "
+                    f"not one of {', '.join(choices)}")
     return choices[word] if isinstance(choices, dict) else word
 
 

@@ -1,6 +1,7 @@
-"""The scenes of the message charts: events, and what the program must answer to each. tests/pictures.py plays them.
+"""The scenes of the message charts: events, and what the program must answer to each.
 
-In the join two tables talk to each other: what one writes is what the other hears, octet for octet.
+tests/pictures.py plays them. In the join two tables talk to each other: what one writes is what the
+other hears, octet for octet.
 """
 
 import collections

@@ -1,9 +1,10 @@
-"""The picture of the states of a peer, at an access point or at a station, drawn from the list of moves."""
+"""The picture of a peer's states, at an access point or a station, drawn from the list of moves."""
 
 import collections
 
 from labels import Label, block, block_size, mark
 from moves import Fault
+from notes import NOTES, belied
 from svg import AMBER, MUTED, PAPER, Canvas
 
 WIDTH, HEIGHT = 1112, 930
@@ -18,19 +19,6 @@ NAMES = {0: ("No record", "counts as State 1"), 1: ("State 1", "not authenticate
 FILLS = {0: PAPER, 1: "#eff2f5", 2: "#ddf0ff", 3: "#fff5c2", 4: "#d8f5df"}
 TITLES = {1: "A peer's state at an access point", 2: "An access point's state at a station"}
 NOTES_X, NOTES_Y = 806, 96
-# What the picture shows by having no arrow for it: for each role a sentence and the moves that would belie it.
-NOTES = {
-    1: (("The response moves nothing: the state rises", "at the report of its acknowledgement.",
-         lambda m: m.by in ("primitive-7", "primitive-8") and m.after > m.before),
-        ("A repeated authentication keeps States 2 to 4.", "",
-         lambda m: "AUTHENTICAT" in m.cause.upper() and "DEAUTH" not in m.cause.upper() and m.before > 1),
-        ("A place is freed by the clock alone,", "so no AID depends on other peers.",
-         lambda m: m.after == 0 and m.by != "clock")),
-    2: (("A success with an AID outside 1 to 2007", "moves nothing.", lambda m: "bad AID" in m.cause),
-        ("A repeated authentication keeps States 2 to 4.", "",
-         lambda m: "AUTHENTICAT" in m.cause.upper() and "DEAUTH" not in m.cause.upper() and m.before > 1),
-        ("One AP at a time is in State 3 or 4:", "a success at another lowers the first.",
-         lambda m: m.after > 2 and "another" in m.cause))}
 
 # An arrow stands for the moves from any of some states to one; they must have the same causes.
 ARROWS = (((0,), 1), ((1,), 2), ((2,), 3), ((3,), 4), ((4,), 3), ((2,), 4), ((3, 4), 2),
@@ -119,8 +107,8 @@ def to_state_1(canvas, arrow_):
 
 def to_state_2(canvas, arrow_):
     """On the right: one line from State 3 and 4, up to State 2. The right edge of its labels."""
-    canvas.line([(BOX_END, middle(4) - 14), (RIGHT_BUS, middle(4) - 14), (RIGHT_BUS, middle(2) + 14),
-                 (BOX_END, middle(2) + 14)])
+    canvas.line([(BOX_END, middle(4) - 14), (RIGHT_BUS, middle(4) - 14),
+                 (RIGHT_BUS, middle(2) + 14), (BOX_END, middle(2) + 14)])
     canvas.line([(BOX_END, middle(3)), (RIGHT_BUS, middle(3))], head=False)
     wide, high = block_size(arrow_.labels)
     block(canvas, RIGHT_BUS + 12, (middle(2) + middle(4)) / 2 - high / 2, arrow_.labels)
@@ -138,12 +126,12 @@ def past_state_3(canvas, arrow_, edge):
 
 def notes(canvas, role, moves):
     """The sentences of a role, each held against the list first."""
+    if belied(role, moves):
+        raise Fault(f"states: the list of moves belies the note '{belied(role, moves)}'")
     y = NOTES_Y
-    for first, second, belies in NOTES[role]:
-        if any(move.role == role and belies(move) for move in moves):
-            raise Fault(f"states: the list of moves belies the note '{first} {second}'")
+    for lines, _ in NOTES[role]:
         canvas.put("circle", cx=float(NOTES_X - 12), cy=float(y - 4), r=2.5, fill=MUTED)
-        for words in filter(None, (first, second)):
+        for words in lines:
             canvas.text(NOTES_X, y, words, fill=MUTED)
             y += 18
         y += 8
@@ -153,27 +141,27 @@ def legend(canvas, holds):
     y = HEIGHT - 44
     canvas.line([(24, y - 32), (WIDTH - 24, y - 32)], "#d8dee4", head=False, thin=True)
     x = 34
-    entries = [("frame", "a frame heard from the peer"), ("primitive-7", "a primitive of our own side, with its number"),
-               ("clock", "a clock step")]
-    for kind, words in entries:
+    for kind, words, wide in (("frame", "a frame heard from the peer", 212),
+                              ("primitive-7", "a primitive of our own side, with its number", 312),
+                              ("clock", "a clock step", 130)):
         mark(canvas, kind, x + 9, y - 4)
         canvas.text(x + 25, y, words)
-        x += {"frame": 212, "primitive-7": 312, "clock": 130}[kind]
+        x += wide
     if holds:
         canvas.text(x, y, "hold", bold=True, fill=AMBER)
         canvas.text(x + 40, y, "sets the hold: the comeback given, else 1,954 TU")
     else:
         canvas.text(x, y, "DS", fill=MUTED)
         canvas.text(x + 30, y, "the distribution system")
-    canvas.text(34, y + 26, "Every move there is: docs/pictures/moves.txt, held against the program by "
-                "tests/moves.py. What is not shown moves no state.", 11.5, fill=MUTED)
+    canvas.text(34, y + 26, "Every move there is: docs/pictures/moves.txt, held against the "
+                "program by tests/moves.py. What is not shown moves no state.", 11.5, fill=MUTED)
 
 
 def picture(role, moves, passes):
     canvas = Canvas(WIDTH, HEIGHT, TITLES[role], "States, and every cause of a move between them.")
     canvas.text(34, 42, TITLES[role], 20, bold=True)
-    canvas.text(34, 65, "Each arrow is a move of the state in the peer's record, and beside it stands what causes it.",
-                fill=MUTED)
+    canvas.text(34, 65, "Each arrow is a move of the state in the peer's record, and beside it "
+                "stands what causes it.", fill=MUTED)
     notes(canvas, role, moves)
     drawn = arrows(role, moves)
     boxes(canvas, passes)

@@ -1,4 +1,4 @@
-"""A canvas that writes SVG and knows where its words and lines are, so that it can say which of them overlap."""
+"""A canvas that writes SVG and can say which of its words and lines overlap."""
 
 import xml.sax.saxutils
 
@@ -50,10 +50,11 @@ class Canvas:
         self.parts.append(f"<{name}{attributes(**given)}{end}")
 
     def rectangle(self, x, y, width, height, fill, stroke=None, radius=6, dashed=False):
-        self.put("rect", x=float(x), y=float(y), width=float(width), height=float(height), rx=radius,
-                 fill=fill, stroke=stroke, stroke_dasharray="5 4" if dashed else None)
+        self.put("rect", x=float(x), y=float(y), width=float(width), height=float(height),
+                 rx=radius, fill=fill, stroke=stroke, stroke_dasharray="5 4" if dashed else None)
 
-    def text(self, x, y, words, size=SIZE, anchor="start", bold=False, fill=INK, over=False, tag=None):
+    def text(self, x, y, words, size=SIZE, anchor="start", bold=False, fill=INK, over=False,
+             tag=None):
         """Words, and behind them a tag in another colour."""
         wide = width_of(words + (f"  {tag}" if tag else ""), size, bold)
         left = x - {"start": 0, "middle": wide / 2, "end": wide}[anchor]
@@ -68,8 +69,9 @@ class Canvas:
         under all else is drawn first."""
         self.segments += list(zip(points, points[1:]))
         path = " ".join(f"{number(float(x))},{number(float(y))}" for x, y in points)
-        self.put("polyline", points=path, fill="none", stroke=stroke, stroke_width=1 if thin else 1.6,
-                 stroke_linejoin="round", stroke_dasharray="5 4" if dashed else None)
+        self.put("polyline", points=path, fill="none", stroke=stroke,
+                 stroke_width=1 if thin else 1.6, stroke_linejoin="round",
+                 stroke_dasharray="5 4" if dashed else None)
         if under:
             self.under.append(self.parts.pop())
         if head:

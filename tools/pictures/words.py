@@ -2,8 +2,9 @@
 
 NAMES = {0: "Association request", 1: "Association response", 10: "Disassociation",
          11: "Authentication", 12: "Deauthentication"}
-PRIMITIVES = {1: "AUTHENTICATE.request", 2: "AUTHENTICATE.response, status {}", 4: "ASSOCIATE.request",
-              7: "ASSOCIATE.response, status {}", 10: "transmit report, {}"}
+PRIMITIVES = {1: "AUTHENTICATE.request", 2: "AUTHENTICATE.response, status {}",
+              4: "ASSOCIATE.request", 7: "ASSOCIATE.response, status {}",
+              10: "transmit report, {}"}
 REPORTS = ("not acknowledged", "acknowledged")
 NOTICES = {1: "AUTHENTICATE.indication", 2: "AUTHENTICATE.confirm, status {}",
            5: "ASSOCIATE.indication", 6: "ASSOCIATE.confirm, status {}"}
@@ -29,7 +30,8 @@ def frame_words(octets):
     name = NAMES[subtype]
     if subtype == 11:
         transaction, status = field(octets, 26), field(octets, 28)
-        return f"{name}, transaction {transaction}" + (f", status {status}" if transaction == 2 else "")
+        answer = f", status {status}" if transaction == 2 else ""
+        return f"{name}, transaction {transaction}{answer}"
     if subtype == 1:
         status, aid = field(octets, 26), field(octets, 28) % 16384
         return f"{name}, status {status}" + (f", AID {aid}" if status == 0 else comeback(octets))
