@@ -11,7 +11,7 @@ WIDTH, HEIGHT = 1112, 930
 BOX_X, BOX_WIDTH, BOX_HEIGHT = 250, 282, 68
 BOX_END = BOX_X + BOX_WIDTH
 TOPS = {0: 90, 1: 218, 2: 340, 3: 528, 4: 732}
-DOWN, UP = BOX_X + 18, BOX_END - 18
+DOWN, UP = BOX_X + 12, BOX_END - 10
 LEFT_BUS, RIGHT_BUS = BOX_X - 26, BOX_END + 24
 NAMES = {0: ("No record", "counts as State 1"), 1: ("State 1", "not authenticated"),
          2: ("State 2", "authenticated, not associated"),
@@ -34,12 +34,14 @@ def states_words(states):
     return "State " + " and ".join(str(state) for state in states)
 
 
-def headings(froms, moves):
-    """For which networks the moves are, where that is not plain, and what they tell the DS."""
+def headings(froms, to, moves):
+    """For which networks the moves are, where that is not plain, and what they tell the DS; of a
+    move back whose labels stand between two arrows, where it goes."""
     lines = []
     rsna = {move.rsna for move in moves}
     if rsna in ({(0,)}, {(1,)}) and froms != (3,):
-        lines.append("RSNA required" if rsna == {(1,)} else "RSNA not required")
+        lines.append(("back to State 3, " if to < froms[0] else "")
+                     + ("RSNA required" if rsna == {(1,)} else "RSNA not required"))
     for letter, word in (("J", "joined"), ("L", "left")):
         told = [state for state in froms if {m.ds for m in moves if m.before == state} == {letter}]
         if told:
@@ -59,7 +61,7 @@ def arrow(froms, to, moves):
             raise Fault(f"states: {states_words((froms[0],))} and {states_words((state,))} go to "
                         f"{to} by other causes, so one arrow can't show both")
     drawn = [m for m in moves if m.before in froms and m.after == to]
-    return Arrow(froms, to, headings(froms, drawn) + first)
+    return Arrow(froms, to, headings(froms, to, drawn) + first)
 
 
 def arrows(role, moves):
