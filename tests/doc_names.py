@@ -6,7 +6,8 @@ import names
 
 DOCUMENTS = ("README.md", "docs/DECISIONS.md", "docs/PROMISES.md", "docs/READING.md",
              "docs/TRACE.md")
-LINK = re.compile(r"\]\(([^)#\s]+)\)")
+LINK = re.compile(r"\]\((?!http)([^)#\s]*)(?:#([^)\s]+))?\)")
+HEADING = re.compile(r"^#+ (.+)$", re.MULTILINE)
 # A path, and perhaps a name of it: `crates/peer/specs/Filter.antt: passesOf`.
 PLACE = re.compile(r"((?:crates/)?(?:octets|peer|table|bench)/(?:specs|proofs|src)/"
                    r"[\w/]+\.(?:antt|rt))(?:: ([\w-]+))?")
@@ -43,18 +44,31 @@ def beside_a_file(text):
         end = token.end()
 
 
-def anywhere(text):
-    """Links and paths lead to a file, and what is named like a definition, a theorem, a function,
-    an edit or a case is one."""
-    for target in LINK.findall(text):
-        if not target.startswith("http") and not any(
-                (names.ROOT / folder / target).exists() for folder in (".", "docs")):
+def anchors(text):
+    """The headings of a document as links name them."""
+    return {re.sub(r"[^\w -]", "", heading).lower().replace(" ", "-")
+            for heading in HEADING.findall(text)}
+
+
+def leads_somewhere(text):
+    """Links and paths lead to a file, and a link into a document to one of its headings."""
+    for target, anchor in LINK.findall(text):
+        found = next((path for path in (names.ROOT / target, names.ROOT / "docs" / target)
+                      if path.is_file()), None)
+        if target and not found:
             yield f"the link to {target} leads nowhere"
+        elif anchor and anchor not in anchors(names.text_of(found) if found else text):
+            yield f"the link to {target}#{anchor} leads to no heading"
     for token in names.TOKEN.findall(text):
-        if FILE.fullmatch(token) and not token.startswith(("specs/", "proofs/", "src/")):
-            if names.path_of(token) is None:
-                yield f"there is no {token}"
-        elif CAMEL.fullmatch(token) and token not in LIBRARY:
+        if FILE.fullmatch(token) and not token.startswith(("specs/", "proofs/", "src/")) \
+                and names.path_of(token) is None:
+            yield f"there is no {token}"
+
+
+def is_somewhere(text):
+    """What is named like a definition, a theorem, or a function, an edit or a case, is one."""
+    for token in names.TOKEN.findall(text):
+        if CAMEL.fullmatch(token) and token not in LIBRARY:
             if not any(names.defined_somewhere(token, folder) for folder in ("specs", "proofs")):
                 yield f"no definition is called {token}"
         elif KEBAB.fullmatch(token):
@@ -109,7 +123,9 @@ def reading_order(text):
         yield f"the minutes add up to {total}; 'In all' says {said.group(1) if said else 'nothing'}"
 
 
-OWN_CHECKS = {"docs/PROMISES.md": (promised,), "docs/READING.md": (reading_order,)}
+FOR_ALL = (beside_a_file, leads_somewhere)
+OWN_CHECKS = {"README.md": (), "docs/PROMISES.md": (is_somewhere, promised),
+              "docs/READING.md": (is_somewhere, reading_order)}
 
 
 def faults():
@@ -120,6 +136,6 @@ def faults():
             found.append(f"there is no {document}")
             continue
         text = path.read_text()
-        for check in (beside_a_file, anywhere) + OWN_CHECKS.get(document, ()):
+        for check in FOR_ALL + OWN_CHECKS.get(document, (is_somewhere,)):
             found += [f"{path.name}: {fault}" for fault in check(text)]
     return found
