@@ -14,11 +14,11 @@ import sys
 
 import situations
 
-sys.path.insert(0, str(pathlib.Path(__file__).resolve().parent.parent / "tools" / "pictures"))
-import moves as pictured  # noqa: E402
+sys.path.append(str(pathlib.Path(__file__).resolve().parent.parent / "tools" / "pictures"))
+import move_list
 
-ROLES = {number: word for word, number in pictured.ROLES.items()}
-# One frame of each class, to our own address.
+ROLES = {number: word for word, number in move_list.ROLES.items()}
+# A kind of frame of each class.
 PROBES = {"type 0 subtype 8": 1, "Disassociation": 2, "type 2 subtype 0": 3}
 
 
@@ -71,9 +71,9 @@ def main():
     parser.add_argument("--trace", default="trace", metavar="WORD")
     given = parser.parse_args()
     try:
-        lines, table = pictured.read()
+        lines, table = move_list.read()
         made, passes, counts = derived(shlex.split(given.bench) + [given.trace])
-    except (pictured.Fault, situations.Trouble) as fault:
+    except (move_list.Fault, situations.Trouble) as fault:
         sys.exit(f"moves: {fault}")
     wanted = expanded(lines)
     in_list = {(state, klass) for state, classes in table.items() for klass in classes}

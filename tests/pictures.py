@@ -15,10 +15,10 @@ import sys
 import bench_input
 import situations
 
-sys.path.insert(0, str(pathlib.Path(__file__).resolve().parent.parent / "tools" / "pictures"))
-import make  # noqa: E402
-import moves  # noqa: E402
-import scenes  # noqa: E402
+sys.path.append(str(pathlib.Path(__file__).resolve().parent.parent / "tools" / "pictures"))
+import make
+import move_list
+import scenes
 
 EVERY_SIDE = ("station", "ap")
 
@@ -73,7 +73,7 @@ def main():
                 if any(step.side == side for step in steps):
                     faults += played(name, steps, side, command)
         faults += [f"{name} is not as tools/pictures/make.py makes it" for name in make.stale()]
-    except (moves.Fault, situations.Trouble) as fault:
+    except (move_list.Fault, situations.Trouble) as fault:
         faults.append(str(fault))
     for fault in faults:
         print(fault)

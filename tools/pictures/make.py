@@ -3,21 +3,21 @@
 import sys
 
 import charts
-import moves
+import move_list
 import states
 
-FOLDER = moves.LIST.parent
+FOLDER = move_list.LIST.parent
 
 
 def pictures():
     """The text of each picture by its file's name; a fault where words would overlap."""
-    lines, passes = moves.read()
+    lines, passes = move_list.read()
     canvases = {"states_ap": states.picture(1, lines, passes),
                 "states_station": states.picture(2, lines, passes),
                 "join": charts.join(), "comeback": charts.comeback()}
     for name, canvas in canvases.items():
         if canvas.faults():
-            raise moves.Fault(f"{name}: " + "; ".join(canvas.faults()))
+            raise move_list.Fault(f"{name}: " + "; ".join(canvas.faults()))
     return {f"{name}.svg": canvas.svg() for name, canvas in canvases.items()}
 
 
@@ -41,5 +41,5 @@ def main():
 if __name__ == "__main__":
     try:
         main()
-    except moves.Fault as fault:
+    except move_list.Fault as fault:
         sys.exit(f"pictures: {fault}")

@@ -7,10 +7,10 @@ other hears, octet for octet.
 import collections
 import sys
 
-from moves import ROOT
+from move_list import ROOT
 
-sys.path.insert(0, str(ROOT / "tests"))
-import bench_input as bench  # noqa: E402
+sys.path.append(str(ROOT / "tests"))
+import bench_input as bench
 
 AP = bench.address("02:00:00:00:00:01")
 STATION = bench.address("02:00:00:00:00:0a")

@@ -3,7 +3,7 @@
 import collections
 
 from labels import Label, block, block_size, mark
-from moves import Fault
+from move_list import Fault
 from notes import NOTES, belied
 from svg import AMBER, MUTED, PAPER, Canvas
 
