@@ -34,7 +34,7 @@ NOTES = {
     1: ((("The response moves nothing: the state rises", "at the report of its acknowledgement."),
          rises_at_report),
         REPEATED,
-        (("A place is freed by the clock alone,", "so no AID depends on other peers."),
+        (("A place is freed by the clock alone,", "never by a deauthentication."),
          freed_by_clock)),
     2: ((("A success with an AID outside 1 to 2007", "moves nothing."), bad_aid_does_nothing),
         REPEATED,
