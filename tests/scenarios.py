@@ -1,0 +1,100 @@
+"""Plays the examples: scenarios.py --bench CMD --independent CMD.
+
+For each examples/NAME.scenario: what the tool tells is examples/NAME.out, through the command itself and
+from the trace of each of the two programs; both print the same plain lines. The nine steps are the octets
+and the lines that the bench program is checked with, and the README shows a part of what is told of them.
+"""
+
+import argparse
+import pathlib
+import re
+import shlex
+import subprocess
+import sys
+import textwrap
+
+from cases import difference
+
+ROOT = pathlib.Path(__file__).resolve().parent.parent
+sys.path.insert(0, str(ROOT / "tools"))
+
+from scenario import answers, read, show  # noqa: E402
+
+EXAMPLES = ROOT / "examples"
+# A block that tells what an event did: a line of a scenario, and a number below it.
+TOLD = re.compile(r"^(prim|frame|clock) .*\n    [0-9]+  ", re.MULTILINE)
+
+
+def laid_out(file):
+    """The reader, the lines and the octets of a scenario."""
+    reader, lines = read.read(file.read_text(), file.name)
+    return reader, lines, read.bench_input(reader, lines)
+
+
+def told(reader, lines, octets, command, with_table=False):
+    count = sum(len(line.events) for line in lines)
+    found = answers.read(answers.run(command, octets), count)
+    return show.transcript(reader, lines, found, with_table)
+
+
+def command_prints(*words):
+    done = subprocess.run([str(ROOT / "scenario"), *words], capture_output=True)
+    return done.stdout if done.returncode == 0 else done.stderr
+
+
+def check(file, bench, independent):
+    """The faults of one example."""
+    stored = file.with_suffix(".out").read_text()
+    reader, lines, octets = laid_out(file)
+    plain = answers.run(bench, octets)
+    tables = [told(reader, lines, octets, command, True)
+              for command in (bench + ["trace"], independent + ["-v"])]
+    compared = {
+        "the command": (stored, command_prints(str(file)).decode()),
+        "bench": (stored, told(reader, lines, octets, bench + ["trace"])),
+        "independent program": (stored, told(reader, lines, octets, independent + ["-v"])),
+        "plain lines of both": (plain, answers.run(independent, octets)),
+        "--lines": (plain, command_prints("--lines", str(file)).decode()),
+        "tables of both": tuple(tables),
+        "--table": (tables[0], command_prints("--table", str(file)).decode()),
+        "--octets": (octets.hex(), command_prints("--octets", str(file)).hex()),
+    }
+    found = {what: difference(*pair) for what, pair in compared.items()}
+    return [f"{what}: {fault}" for what, fault in found.items() if fault]
+
+
+def nine_steps():
+    """The nine steps are those of the bench program's own check, and those of the README."""
+    file = EXAMPLES / "nine_steps.scenario"
+    crate = ROOT / "crates/bench"
+    faults = []
+    if laid_out(file)[2] != (crate / "stdin").read_bytes():
+        faults.append("the octets are not those of crates/bench/stdin")
+    if command_prints("--lines", str(file)) != (crate / "stdout").read_bytes():
+        faults.append("the lines are not those of crates/bench/stdout")
+    blocks = (textwrap.dedent(block) for block in (ROOT / "README.md").read_text().split("\n\n"))
+    told_in_readme = [block for block in blocks if TOLD.search(block)]
+    if len(told_in_readme) != 1 or told_in_readme[0] not in file.with_suffix(".out").read_text():
+        faults.append("README.md does not show a part of what is told of them")
+    return faults
+
+
+def main():
+    parser = argparse.ArgumentParser(description=__doc__.splitlines()[0])
+    parser.add_argument("--bench", required=True)
+    parser.add_argument("--independent", required=True)
+    given = parser.parse_args()
+    bench, independent = shlex.split(given.bench), shlex.split(given.independent)
+    files = sorted(EXAMPLES.glob("*.scenario"))
+    results = {file.name: check(file, bench, independent) for file in files}
+    results["nine steps"] = nine_steps()
+    for name, faults in results.items():
+        for fault in faults:
+            print(f"{name}: {fault}")
+    failed = sum(1 for faults in results.values() if faults)
+    print(f"{len(files)} examples, {failed} failed")
+    sys.exit(1 if failed or not files else 0)
+
+
+if __name__ == "__main__":
+    main()
