@@ -14,13 +14,19 @@ ROOT = pathlib.Path(__file__).resolve().parent.parent
 sys.path.insert(0, str(ROOT / "tools"))
 
 import bench_input as bench  # noqa: E402
-from scenario import frame_words, frames, manual, primitives, read  # noqa: E402
+from scenario import answers, frame_words, frames, manual, primitives, read  # noqa: E402
 from wrong_scenarios import all_wrong  # noqa: E402
 
 OWN, PEER, OTHER = "02:00:00:00:00:01", "02:00:00:00:00:0a", "06:01:02:03:04:05"
 ADDRESSES = (PEER, OTHER, "ff:ff:ff:ff:ff:ff", "00:00:00:00:00:00")
 OCTETS = {"00": b"\0", "3805030000000038": bytes.fromhex("3805030000000038"),
           "38050300": b"\x38\5\3\0", "dd00*200": b"\xdd\0" * 200}
+# The primitives by number, each with the name of its code.
+PRIMITIVES = (("authenticate", "code"), ("respond-authenticate", "status"),
+              ("deauthenticate", "reason"), ("associate", "code"), ("reassociate", "code"),
+              ("disassociate", "reason"), ("respond-associate", "status"),
+              ("respond-reassociate", "status"), ("set-protection", "code"),
+              ("report", "acknowledged"))
 
 
 def event(line, first=f"ap own={OWN}"):
@@ -111,11 +117,35 @@ def frames_as_laid_out():
 def primitives_by_word_and_number():
     """A primitive by its word is the one by its number, with the code by either name."""
     faults = []
-    for row in primitives.TABLE:
-        wanted = bench.primitive(row.number, PEER, 1)
-        for line in (f"prim {row.word} {PEER} {row.code}=1", f"prim {row.number} {PEER} code=1"):
+    for at, (word, code) in enumerate(PRIMITIVES, 1):
+        wanted = bench.primitive(at, PEER, 1)
+        for line in (f"prim {word} {PEER} {code}=1", f"prim {at} {PEER} {code}=1",
+                     f"prim {word} {PEER} code=1"):
             if event(line).record != wanted:
                 faults.append(line)
+    return faults + ([] if len(PRIMITIVES) == len(primitives.TABLE) else ["more primitives"])
+
+
+def odd_answers_are_told():
+    """A bench program that prints what it never should, or can't be run, is a fault with a line."""
+    line, place = "1 0 - 0 0 0 - 0\n", "  place 0 02000000000a 1 0 0 0\n"
+    wanted = [("stop\n", "the bench program printed 'stop', which is no line of its trace"),
+              (place + line, f"the bench program printed '{place[:-1]}', which is no line of its trace"),
+              ("", "the bench program gave 0 answers to 1 events"),
+              (line + line, "the bench program gave 2 answers to 1 events")]
+    faults = []
+    for printed, said in wanted:
+        try:
+            answers.read(printed, 1)
+            faults.append(f"taken: {printed}")
+        except answers.BenchFault as fault:
+            faults += [] if str(fault) == said else [str(fault)]
+    try:
+        answers.run(["/no/such/program"], b"")
+        faults.append("ran a program that is not there")
+    except answers.BenchFault as fault:
+        said = "/no/such/program can't be run: No such file or directory"
+        faults += [] if str(fault) == said else [str(fault)]
     return faults
 
 
@@ -162,7 +192,8 @@ def help_is_whole():
 
 def main():
     tests = (words_cover_classes, frames_round_trip, frames_as_laid_out, help_is_whole,
-             primitives_by_word_and_number, faults_are_told, command_line_faults)
+             primitives_by_word_and_number, odd_answers_are_told, faults_are_told,
+             command_line_faults)
     failed = 0
     for test in tests:
         faults = test()

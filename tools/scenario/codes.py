@@ -28,8 +28,8 @@ STATUS = {
 REASON = {
     1: "unspecified", 2: "authentication no longer valid", 3: "sender is leaving or has left",
     4: "inactivity", 5: "AP can't take all its stations",
-    6: "class 2 frame from a station that is not authenticated",
-    7: "class 3 frame from a station that is not associated",
+    6: "class 2 frame from a peer that is not authenticated",
+    7: "class 3 frame from a peer that is not associated",
     8: "sender is leaving the network", 9: "asked to associate before authentication",
     10: "power capability not acceptable", 11: "supported channels not acceptable",
     13: "invalid element", 14: "message integrity check failure", 15: "4-way handshake timeout",

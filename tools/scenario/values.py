@@ -62,9 +62,8 @@ class Names:
         self._names = {bench.BROADCAST: "broadcast"}
 
     def set_own(self, address):
-        """Our own address is called 'own', and by its given name, if any, where it is shown."""
+        """Our own address is 'own'; where it has a name beside, that one is shown."""
         self._addresses["own"] = address
-        self._names.setdefault(address, "own")
 
     def _give(self, name, address):
         if name in ("own", "broadcast"):
@@ -102,7 +101,9 @@ class Names:
         return [self._addresses[name] for name in names]
 
     def say(self, address):
-        return self._names.get(address) or bench.address_text(address)
+        """An address as a reader knows it best: its name, 'own', or its octets."""
+        own = "own" if address == self._addresses.get("own") else None
+        return self._names.get(address) or own or bench.address_text(address)
 
 
 def _members(text, what="name"):

@@ -113,12 +113,15 @@ def records(event, answer, before, say):
 
 def tell(event, answer, before, role, say):
     """The lines that say what an event did."""
+    lines = ["heard as " + frame(event.frame, say)] if event.raw and frames.decode(event.frame) else []
     if answer.refusal:
         why = codes.refusal(answer.refusal, event.kind, event.primitive, role)
-        return [f"refused {answer.refusal}: {why}; nothing changes"]
-    lines = [VERDICTS[answer.verdict]] if answer.verdict in VERDICTS else []
-    if event.raw:
-        lines.append("heard as " + frame(event.frame, say))
+        lines.append(f"refused {answer.refusal}: {why}")
+        if answer.table == before and not answer.octets:
+            lines[-1] += "; nothing changes"
+            return lines
+    if answer.verdict in VERDICTS:
+        lines.append(VERDICTS[answer.verdict])
     if answer.notice:
         lines.append(notice(answer, say))
     if answer.octets:
