@@ -6,6 +6,7 @@ Nothing here checks a rule: a caller may ask for any field value that fits its o
 """
 
 MARK = b"\x0b\x03"
+HEAD = 5  # octets of a record before its body: mark, kind, length
 SETTINGS, PRIMITIVE, FRAME, CLOCK = 0, 1, 2, 3
 ACCESS_POINT, STATION = 1, 2
 

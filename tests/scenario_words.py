@@ -14,10 +14,12 @@ ROOT = pathlib.Path(__file__).resolve().parent.parent
 sys.path.insert(0, str(ROOT / "tools"))
 
 import bench_input as bench  # noqa: E402
+import generate  # noqa: E402
 from scenario import answers, frame_words, frames, manual, primitives, read  # noqa: E402
 from wrong_scenarios import all_wrong  # noqa: E402
 
 OWN, PEER, OTHER = "02:00:00:00:00:01", "02:00:00:00:00:0a", "06:01:02:03:04:05"
+GENERATED = 2000
 ADDRESSES = (PEER, OTHER, "ff:ff:ff:ff:ff:ff", "00:00:00:00:00:00")
 OCTETS = {"00": b"\0", "3805030000000038": bytes.fromhex("3805030000000038"),
           "38050300": b"\x38\5\3\0", "dd00*200": b"\xdd\0" * 200}
@@ -91,6 +93,21 @@ def frames_round_trip():
              for name in frame_words.fields_of(row) if name != "length"
              for text, value in samples(frame_words.FIELDS[name]).items()]
     return [fault for fault in trips if fault]
+
+
+def generated_frames_round_trip():
+    """Frames of the generated walks: what is read from their octets writes the same octets."""
+    faults, read_back = [], 0
+    for job in generate.plan(1, GENERATED, "ap") + generate.plan(1, GENERATED, "station"):
+        octets = generate.make(job)
+        while octets:
+            end = bench.HEAD + int.from_bytes(octets[3:5], "little")
+            kind, body, octets = octets[2], octets[bench.HEAD:end], octets[end:]
+            found = frames.decode(body) if kind == bench.FRAME else None
+            read_back += found is not None
+            if found and frames.encode(*found) != body:
+                faults.append(body.hex())
+    return faults + ([] if read_back > GENERATED // 2 else [f"only {read_back} frames read back"])
 
 
 def frames_as_laid_out():
@@ -191,9 +208,9 @@ def help_is_whole():
 
 
 def main():
-    tests = (words_cover_classes, frames_round_trip, frames_as_laid_out, help_is_whole,
-             primitives_by_word_and_number, odd_answers_are_told, faults_are_told,
-             command_line_faults)
+    tests = (words_cover_classes, frames_round_trip, generated_frames_round_trip,
+             frames_as_laid_out, help_is_whole, primitives_by_word_and_number,
+             odd_answers_are_told, faults_are_told, command_line_faults)
     failed = 0
     for test in tests:
         faults = test()

@@ -21,6 +21,21 @@ sys.path.insert(0, str(ROOT / "tools"))
 from scenario import answers, read, show  # noqa: E402
 
 EXAMPLES = ROOT / "examples"
+# Settings, an event, its refusal and what is told of that.
+GOOD = "ap own=02:00:00:00:00:01"
+SETTINGS = "the settings are not well formed"
+ASKED = "unknown primitive, peer address invalid or our own, or code not allowed"
+REFUSED = [
+    (f"{GOOD} rsna=2", "clock 1", 2, SETTINGS), (f"{GOOD} timeouts=0,1", "clock 1", 2, SETTINGS),
+    (f"{GOOD} timeouts=1,0", "frame ack", 2, SETTINGS), ("ap own=broadcast", "clock 1", 2, SETTINGS),
+    ("settings role=3 own=02:00:00:00:00:01", "clock 1", 2, SETTINGS),
+    (GOOD, "clock 0", 3, "a clock step is at least 1 TU"),
+    (GOOD, "prim 255 02:00:00:00:00:0a", 3, ASKED),
+    (GOOD, "prim report 02:00:00:00:00:0a acknowledged=2", 3, ASKED),
+    (GOOD, "prim deauthenticate 02:00:00:00:00:0a reason=0", 3, ASKED),
+    (GOOD, "prim authenticate 02:00:00:00:00:0a", 5, "this primitive is not for an AP"),
+    (GOOD, "frame raw b0 00*8", 3, "too short, or Address 2 is invalid or our own"),
+]
 # A block that tells what an event did: a line of a scenario, and a number below it.
 TOLD = re.compile(r"^(prim|frame|clock) .*\n    [0-9]+  ", re.MULTILINE)
 
@@ -63,6 +78,17 @@ def check(file, bench, independent):
     return [f"{what}: {fault}" for what, fault in found.items() if fault]
 
 
+def refused_values(bench):
+    """What a field can hold and the rules refuse is played, and gets its number."""
+    faults = []
+    for settings, line, number, said in REFUSED:
+        reader, lines = read.read(f"{settings}\n{line}\n", "refused")
+        text = told(reader, lines, read.bench_input(reader, lines), bench + ["trace"])
+        if f"    1  refused {number}: {said}; nothing changes\n" not in text:
+            faults.append(text)
+    return faults
+
+
 def nine_steps():
     """The nine steps are those of the bench program's own check, and those of the README."""
     file = EXAMPLES / "nine_steps.scenario"
@@ -88,6 +114,7 @@ def main():
     files = sorted(EXAMPLES.glob("*.scenario"))
     results = {file.name: check(file, bench, independent) for file in files}
     results["nine steps"] = nine_steps()
+    results["refused values"] = refused_values(bench)
     for name, faults in results.items():
         for fault in faults:
             print(f"{name}: {fault}")

@@ -5,6 +5,8 @@ START = ["ap own=02:00:00:00:00:01", "name p = 02:00:00:00:00:0a", "name s-1..3 
 # The faulty line is the fourth one, behind START.
 LINES = [
     ("fram data from=p", "'fram' is no word to begin a line: did you mean 'frame'?"),
+    ("\x1b[2J", "'?[2J' is no word to begin a line: "
+     "one of name, ap, station, settings, frame, prim, clock"),
     ("reboot", "'reboot' is no word to begin a line: "
      "one of name, ap, station, settings, frame, prim, clock"),
     ("ap own=02:00:00:00:00:01", "a second 'ap': the settings come once, at the start"),

@@ -161,7 +161,8 @@ def read(text, file):
         try:
             lines.append(Line(at, line.rstrip(), reader.events(line)))
         except Fault as fault:
-            raise ScenarioFault(f"{file}:{at}: {fault}") from None
+            said = "".join(sign if sign.isprintable() else "?" for sign in str(fault))
+            raise ScenarioFault(f"{file}:{at}: {said}") from None
     if reader.settings is None:
         raise ScenarioFault(f"{file}:{len(lines)}: no settings: the first line is {FIRST}")
     return reader, lines

@@ -8,6 +8,7 @@ VERDICTS = {"A": "admitted", "D": "discarded"}
 DS = {"J": "joined", "L": "left"}
 REPORT_OCTETS = 8
 JOIN_CONFIRMS = (6, 8)
+MOST_SHOWN = 24
 # Fields of a frame sent that are shown only where they are not these.
 PLAIN = {"version": 0, "flags": 0, "duration": 0, "sequence": 0, "to-ds": 0, "from-ds": 0,
          "elements": b"", "body": b""}
@@ -47,12 +48,19 @@ def change(name, old, new, rejected=False):
     return f"{name}: {moved}{state(new.state)}{details(new, no_hold)}"
 
 
+def shortened(octets):
+    """Octets in hexadecimal, the first of them where they are many."""
+    if len(octets) <= MOST_SHOWN:
+        return octets.hex()
+    return f"{octets[:MOST_SHOWN].hex()}.. ({len(octets)} octets)"
+
+
 def field(name, value, say, word):
     """One field of a frame, with the meaning of a code; a request's status has none."""
     if frame_words.FIELDS[name].kind == "address":
         return f"{name}={say(value)}"
     if isinstance(value, bytes):
-        return f"{name}={value.hex()}"
+        return f"{name}={shortened(value)}"
     if name in ("status", "reason") and word != "auth-request":
         number, _, meaning = codes.coded(name, value).partition(" ")[2].partition(" ")
         return f"{name}={number} {meaning}".rstrip()
@@ -63,7 +71,7 @@ def frame(octets, say, hide=()):
     """A frame by its word and fields; by its octets where no word writes it."""
     found = frames.decode(octets)
     if found is None:
-        return "raw " + octets.hex(" ")
+        return f"raw {shortened(octets)}"
     row, fields = found
     order = [name for name in frame_words.FIELDS if name in fields]
     shown = [field(name, fields[name], say, row.word) for name in order
@@ -83,7 +91,7 @@ def reports(octets, say):
         place, kind = octets[at], octets[at + 1]
         peer = say(octets[at + 2:at + REPORT_OCTETS])
         lines.append(f"timed out: {codes.KINDS.get(kind, kind)} with {peer}, place {place}")
-    return lines
+    return merge.lines(lines)
 
 
 def notice(answer, say):
