@@ -66,10 +66,9 @@ def samples(field):
 
 def round_trip(row, field, text, value):
     """What is read back from the octets is the value written, and writes the same octets."""
-    needed = {"from": PEER, "current-ap": OTHER}
-    given = {name: value for name, value in needed.items() if name in frame_words.fields_of(row)}
-    given[field.name] = text
-    line = f"frame {row.word} " + " ".join(f"{name}={value}" for name, value in given.items())
+    needed = [("from", PEER), ("current-ap", OTHER), (field.name, text)]
+    given = {name: words for name, words in needed if name in frame_words.fields_of(row)}
+    line = " ".join([f"frame {row.word}"] + [f"{name}={words}" for name, words in given.items()])
     octets = event(line).frame
     found = frames.decode(octets)
     if found is None:
@@ -80,6 +79,8 @@ def round_trip(row, field, text, value):
         field_value = fields["aid"] and fields["aid"] | 0xC000
     if field.name == "elements" and "comeback" in fields:
         field_value = bench.timeout_interval(fields["comeback"]) + field_value
+    if back != row and field.name != "transaction":
+        return f"{line}: read back as {back.word}"
     if field_value != value:
         return f"{line}: {field.name} read back as {field_value}"
     if frames.encode(back, fields) != octets:

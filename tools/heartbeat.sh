@@ -22,6 +22,11 @@ beat() {
     done
 }
 
+# The lines of crates.txt that list a crate.
+crates_listed() {
+    grep -v -e '^#' -e '^$' crates.txt
+}
+
 # Takes note of a line of rt: a crate that is done, an edit that was tried.
 beat_saw() {
     case $1 in
@@ -36,14 +41,14 @@ beat_saw() {
 # What rt is at: the crates that are not done while all they stand on is, then the edits, then the programs.
 beat_at() {
     local name deps dep ready now='' listed=' '
-    while IFS=: read -r name deps; do listed="$listed$name "; done < <(grep -v '^#' crates.txt)
+    while IFS=: read -r name deps; do listed="$listed$name "; done < <(crates_listed)
     while IFS=: read -r name deps; do
         ready=1
         for dep in $deps; do
             [[ $listed != *" $dep "* || $beat_done == *" $dep "* ]] || ready=0
         done
         [[ $ready -eq 0 || $beat_done == *" $name "* ]] || now="$now${now:+, }$name"
-    done < <(grep -v '^#' crates.txt)
+    done < <(crates_listed)
     if [ -n "$now" ]; then
         echo "proving $now"
     elif [ "$beat_edits" -lt "$beat_wanted" ]; then

@@ -5,9 +5,12 @@ import bench_input as bench
 from . import frame_words
 from .values import Fault
 
+# The second octet of Frame Control: To DS and From DS, and what is above them.
 DS_BITS, FLAG_BITS = 0x03, 0xFC
+# The two top bits that an AID has on the air.
 AID_MARK = 0xC000
 COMEBACK_HEAD = bytes((bench.TIMEOUT_INTERVAL, 5, bench.COMEBACK))
+# Data subtypes with this bit have a QoS Control field of two octets behind the header.
 QOS = 8
 
 

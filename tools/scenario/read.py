@@ -10,7 +10,7 @@ from .values import Fault, Names, number, octets, one_of
 # An event: its record, kind ('frame', 'prim', 'clock'), the peer it names, the primitive's number,
 # the octets of a frame, and whether the scenario gives these by themselves.
 Event = collections.namedtuple("Event", "record kind peer primitive frame raw")
-Line = collections.namedtuple("Line", "number text events")
+Line = collections.namedtuple("Line", "text events")
 Settings = collections.namedtuple("Settings", "role own rsna timeouts")
 
 ROLES = {"ap": bench.ACCESS_POINT, "station": bench.STATION}
@@ -39,7 +39,7 @@ def _pairs(words, known, what):
 
 
 class Reader:
-    """Takes line after line; holds the names, the settings and the records so far."""
+    """Takes line after line; holds the names and the settings so far."""
 
     def __init__(self):
         self.names, self.settings, self.settings_record = Names(), None, b""
@@ -92,8 +92,8 @@ class Reader:
             raise Fault(f"{what}: '{text}' is {len(found)} addresses: one is wanted here")
         return found[0]
 
-    def _values(self, row, given):
-        """The values of a frame's fields; an address may stand for several."""
+    def _values(self, given):
+        """The values of a frame's fields, and which of them, if any, is several addresses."""
         values = {}
         for name, text in given.items():
             field = frame_words.FIELDS[name]
@@ -114,7 +114,7 @@ class Reader:
         if words[0] == "raw":
             return [self._heard(octets(" ".join(words[1:]), "raw"), True)]
         row = frame_words.BY_WORD[one_of(words[0], list(frame_words.BY_WORD) + ["raw"], "frame")]
-        values, wide = self._values(row, _pairs(words[1:], frame_words.fields_of(row), row.word))
+        values, wide = self._values(_pairs(words[1:], frame_words.fields_of(row), row.word))
         count = len(values[wide[0]]) if wide else 1
         made = []
         for at in range(count):
@@ -159,7 +159,7 @@ def read(text, file):
     reader, lines = Reader(), []
     for at, line in enumerate(text.rstrip("\n").split("\n"), 1):
         try:
-            lines.append(Line(at, line.rstrip(), reader.events(line)))
+            lines.append(Line(line.rstrip(), reader.events(line)))
         except Fault as fault:
             said = "".join(sign if sign.isprintable() else "?" for sign in str(fault))
             raise ScenarioFault(f"{file}:{at}: {said}") from None
