@@ -89,8 +89,26 @@ def refused_values(bench):
     return faults
 
 
+def readme(bench):
+    """The README's part of what is told of the nine steps is so, and its own scenario can be played."""
+    blocks = [textwrap.dedent(block) for block in (ROOT / "README.md").read_text().split("\n\n")]
+    shown = [block for block in blocks if TOLD.search(block)]
+    own = [block for block in blocks if block.startswith("station own=")]
+    if len(shown) != 1 or len(own) != 1:
+        return ["not one part of the nine steps and one scenario"]
+    faults = []
+    if shown[0] not in (EXAMPLES / "nine_steps.out").read_text():
+        faults.append("what it shows is not told of the nine steps")
+    try:
+        reader, lines = read.read(own[0], "its scenario")
+        told(reader, lines, read.bench_input(reader, lines), bench + ["trace"])
+    except read.ScenarioFault as fault:
+        faults.append(str(fault))
+    return faults
+
+
 def nine_steps():
-    """The nine steps are those of the bench program's own check, and those of the README."""
+    """The nine steps are those of the bench program's own check."""
     file = EXAMPLES / "nine_steps.scenario"
     crate = ROOT / "crates/bench"
     faults = []
@@ -98,10 +116,6 @@ def nine_steps():
         faults.append("the octets are not those of crates/bench/stdin")
     if command_prints("--lines", str(file)) != (crate / "stdout").read_bytes():
         faults.append("the lines are not those of crates/bench/stdout")
-    blocks = (textwrap.dedent(block) for block in (ROOT / "README.md").read_text().split("\n\n"))
-    told_in_readme = [block for block in blocks if TOLD.search(block)]
-    if len(told_in_readme) != 1 or told_in_readme[0] not in file.with_suffix(".out").read_text():
-        faults.append("README.md does not show a part of what is told of them")
     return faults
 
 
@@ -115,6 +129,7 @@ def main():
     results = {file.name: check(file, bench, independent) for file in files}
     results["nine steps"] = nine_steps()
     results["refused values"] = refused_values(bench)
+    results["README.md"] = readme(bench)
     for name, faults in results.items():
         for fault in faults:
             print(f"{name}: {fault}")
