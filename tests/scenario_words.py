@@ -120,6 +120,7 @@ def frames_as_laid_out():
         ("deauth", bench.deauthentication(OWN, PEER)),
         ("disassoc", bench.disassociation(OWN, PEER)),
         ("data", bench.data(OWN, PEER)),
+        ("qos-data", bench.data(OWN, PEER, b"\0\0", subtype=8)),
         ("rts", bench.control(bench.RTS, OWN, PEER)),
         ("auth-request length=29", bench.authentication(OWN, PEER)[:29]),
     ]
@@ -128,6 +129,9 @@ def frames_as_laid_out():
     at_station = event(f"frame assoc-response from={PEER} status=17 comeback=5 elements=dd00",
                        f"station own={OWN}")
     faults = [] if at_station.frame == response else ["assoc-response at a station"]
+    rsna = event(f"frame assoc-request from={PEER}", f"ap own={OWN} rsna=1")
+    if rsna.frame != bench.association_request(OWN, PEER, capability=0x0011):
+        faults.append("assoc-request where RSNA is required")
     return faults + [f"frame {words}" for words, octets in pairs
                      if event(f"frame {words} from={PEER}").frame != octets]
 
