@@ -1,6 +1,7 @@
 /* call.c - what must come of a call, by the independent functions; the call itself; and the comparison of everything lent. */
 #include "call.h"
 #include "lent.h"
+#include "on_stack.h"
 #include "tally.h"
 
 #include <stdio.h>
@@ -8,7 +9,10 @@
 #include <string.h>
 #include <unistd.h>
 
-enum { PATIENCE = 60 }; /* seconds after which a call counts as one that does not end */
+enum {
+    PATIENCE = 60, /* seconds after which a call counts as one that does not end */
+    CALLER = 256   /* octets of stack for the caller's own frame */
+};
 
 /* What a call leaves: the answer, and all octets of table and out. */
 struct outcome {
@@ -48,13 +52,25 @@ static void expect(const struct call *c, const uint8_t *out, struct outcome *o)
     }
 }
 
-static peer_answer library(const struct call *c, uint8_t *table, const uint8_t *frame, uint8_t *out)
+/* One call with the memory that it is lent. */
+struct lent_call {
+    const struct call *call;
+    uint8_t *table, *frame, *out;
+    peer_answer answer;
+};
+
+/* Runs on the bounded stack. */
+static void library(void *given)
 {
+    struct lent_call *l = given;
+    const struct call *c = l->call;
+
     if (c->kind == CALL_RECEIVE)
-        return peer_receive(table, c->table_octets, c->settings, frame, c->frame_octets, out, c->out_octets);
-    if (c->kind == CALL_ASK)
-        return peer_ask(table, c->table_octets, c->settings, c->primitive, c->address, c->number, out, c->out_octets);
-    return peer_pass(table, c->table_octets, c->settings, c->number, out, c->out_octets);
+        l->answer = peer_receive(l->table, c->table_octets, c->settings, l->frame, c->frame_octets, l->out, c->out_octets);
+    else if (c->kind == CALL_ASK)
+        l->answer = peer_ask(l->table, c->table_octets, c->settings, c->primitive, c->address, c->number, l->out, c->out_octets);
+    else
+        l->answer = peer_pass(l->table, c->table_octets, c->settings, c->number, l->out, c->out_octets);
 }
 
 static void print_answer(const char *who, struct pt_answer a)
@@ -75,43 +91,51 @@ static struct pt_answer in_other_form(peer_answer a)
     return (struct pt_answer){ a.current, a.code, a.written, a.refusal, a.verdict, a.notice, a.ds, a.state };
 }
 
-static void differs(const struct call *c, const char *what, peer_answer a, const struct outcome *o, const uint8_t *table,
-                    const uint8_t *out)
+static void differs(const char *what, const struct lent_call *l, const struct outcome *o)
 {
     printf("host: DIFFERENCE: %s\n", what);
-    call_print(c);
-    print_answer("library", in_other_form(a));
+    call_print(l->call);
+    print_answer("library", in_other_form(l->answer));
     print_answer("independent", o->answer);
-    print_change("table", table, o->table, c->table_octets);
-    print_change("out", out, o->out, c->out_octets);
+    print_change("table", l->table, o->table, l->call->table_octets);
+    print_change("out", l->out, o->out, l->call->out_octets);
     fflush(stdout);
     exit(1);
+}
+
+static void compare(const struct lent_call *l, const struct outcome *o)
+{
+    const struct call *c = l->call;
+
+    if (!same_answer(&l->answer, &o->answer))
+        differs("the answer", l, o);
+    if (memcmp(l->table, o->table, c->table_octets) != 0)
+        differs("the table after the call", l, o);
+    if (memcmp(l->out, o->out, c->out_octets) != 0)
+        differs("the octets of out", l, o);
+    if (memcmp(l->frame, c->frame, c->frame_octets) != 0)
+        differs("the frame was written to", l, o);
+    if (!lent_round_about(LENT_TABLE) || !lent_round_about(LENT_FRAME) || !lent_round_about(LENT_OUT))
+        differs("octets outside of what was lent were written", l, o);
 }
 
 struct pt_answer checked(struct call *c, struct chance *chance)
 {
     static struct outcome o;
-    uint8_t before[OUT_MOST];
-    uint8_t *table = lend(LENT_TABLE, chance, c->table, c->table_octets), *frame = lend(LENT_FRAME, chance, c->frame, c->frame_octets);
+    static uint8_t before[OUT_MOST];
+    struct lent_call l = { .call = c };
 
     draw_octets(chance, before, c->out_octets);
-    uint8_t *out = lend(LENT_OUT, chance, before, c->out_octets);
+    l.table = lend(LENT_TABLE, chance, c->table, c->table_octets);
+    l.frame = lend(LENT_FRAME, chance, c->frame, c->frame_octets);
+    l.out = lend(LENT_OUT, chance, before, c->out_octets);
     expect(c, before, &o);
     call_under_way = c;
     if (tally_calls() % 4096 == 0)
         alarm(PATIENCE);
-    peer_answer a = library(c, table, frame, out);
+    call_on(lent_stack(PEER_STACK_OCTETS + CALLER), library, &l);
     call_under_way = NULL;
-    if (!same_answer(&a, &o.answer))
-        differs(c, "the answer", a, &o, table, out);
-    if (memcmp(table, o.table, c->table_octets) != 0)
-        differs(c, "the table after the call", a, &o, table, out);
-    if (memcmp(out, o.out, c->out_octets) != 0)
-        differs(c, "the octets of out", a, &o, table, out);
-    if (c->frame_octets > 0 && memcmp(frame, c->frame, c->frame_octets) != 0)
-        differs(c, "the frame was written to", a, &o, table, out);
-    if (!lent_round_about(LENT_TABLE) || !lent_round_about(LENT_FRAME) || !lent_round_about(LENT_OUT))
-        differs(c, "octets outside of what was lent were written", a, &o, table, out);
+    compare(&l, &o);
     tally_add(c, &o.answer);
     memcpy(c->table, o.table, c->table_octets);
     return o.answer;

@@ -28,8 +28,8 @@ struct call {
     unsigned long index;
 };
 
-/* Makes the call and compares the answer and every octet that was lent, and round about. At a difference, or where the library faults or
-   does not end, prints the whole call and ends the program with status 1. */
+/* Makes the call, on a stack of PEER_STACK_OCTETS, and compares the answer and every octet that was lent, and round about. At a
+   difference, or where the library faults or does not end, prints the whole call and ends the program with status 1. */
 struct pt_answer checked(struct call *call, struct chance *chance);
 
 /* The call that the library is at, or NULL. */

@@ -1,4 +1,4 @@
-/* lent.c - one area for each of table, frame and out: a page without access, the room, a page without access. A read or write beyond the
+/* lent.c - one area for each of table, frame, out and stack: a page without access, the room, a page without access. A read or write beyond the
    lent octets ends in a fault at once, or changes a guard octet, which is seen after the call. */
 #define _DEFAULT_SOURCE
 #include "lent.h"
@@ -70,4 +70,9 @@ bool lent_round_about(enum lent which)
 
     return all_paint(at - before(which), before(which), areas[which].paint) &&
            all_paint(at + areas[which].length, after(which), areas[which].paint);
+}
+
+uint8_t *lent_stack(size_t octets)
+{
+    return areas[LENT_STACK].room + octets;
 }

@@ -4,7 +4,7 @@
 
 #include "chance.h"
 
-enum lent { LENT_TABLE, LENT_FRAME, LENT_OUT, LENT_ALL };
+enum lent { LENT_TABLE, LENT_FRAME, LENT_OUT, LENT_STACK, LENT_ALL };
 
 enum { LENT_MOST = 8192 };
 
@@ -16,5 +16,8 @@ uint8_t *lend(enum lent which, struct chance *chance, const uint8_t *contents, s
 
 /* True where the octets round what was lent last are still as they were. */
 bool lent_round_about(enum lent which);
+
+/* The top of a stack of this many octets (a multiple of 16), below which nobody may write. */
+uint8_t *lent_stack(size_t octets);
 
 #endif

@@ -1,5 +1,5 @@
 /* show.c - a call in print, and what is told of one that faults or does not end. */
-#define _POSIX_C_SOURCE 200809L
+#define _XOPEN_SOURCE 700
 #include "call.h"
 
 #include <signal.h>
@@ -34,7 +34,8 @@ void call_print(const struct call *c)
 /* The program ends here, so that what printf does in a handler does no harm. */
 static void tell(int signal_number)
 {
-    printf("host: %s\n", signal_number == SIGALRM ? "A CALL DOES NOT END" : "FAULT: a read or write outside of what was lent, or a trap");
+    printf("host: %s\n", signal_number == SIGALRM ? "A CALL DOES NOT END"
+                                                 : "FAULT: a read or write outside of what was lent, too much stack, or a trap");
     if (call_under_way)
         call_print(call_under_way);
     else
@@ -46,8 +47,11 @@ static void tell(int signal_number)
 void call_watch(void)
 {
     static const int signals[] = { SIGSEGV, SIGBUS, SIGILL, SIGFPE, SIGABRT, SIGTRAP, SIGALRM };
-    struct sigaction act = { .sa_handler = tell };
+    static char stack[65536]; /* the handler's own: the fault may be that there was no more of the other */
+    stack_t other = { .ss_sp = stack, .ss_size = sizeof stack };
+    struct sigaction act = { .sa_handler = tell, .sa_flags = SA_ONSTACK };
 
+    sigaltstack(&other, NULL);
     for (size_t i = 0; i < sizeof signals / sizeof *signals; i++)
         sigaction(signals[i], &act, NULL);
 }

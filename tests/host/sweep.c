@@ -64,7 +64,7 @@ static void sweep_lengths(struct chance *c, enum call_kind kind, uint8_t role)
 
 static void sweep_frames(struct chance *c, uint8_t role)
 {
-    for (size_t length = 0; length <= FRAME_MOST; length += length < 64 ? 1 : 1 + below(c, 8))
+    for (size_t length = 0; length <= FRAME_MOST; length++)
         for (unsigned again = 0; again < (length < 64 ? 16 : 1); again++) {
             fresh(c, CALL_RECEIVE, role, "the sweep of frame lengths");
             draw_octets(c, call.frame + 96, length > 96 ? length - 96 : 0);

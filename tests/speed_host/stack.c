@@ -1,6 +1,7 @@
-/* stack.c - stack use by paint: for one call the stack pointer stands at the top of a painted area, then the lowest octet that changed is
-   looked for. A callee that returns at once, called in the same way, tells what the caller takes. x86-64 only, as the library is. */
+/* stack.c - stack use by paint: one call runs on a painted area, then the lowest octet that changed is looked for. A callee that returns
+   at once, called in the same way, tells what the caller takes. */
 #include "stack.h"
+#include "on_stack.h"
 
 #include <stdio.h>
 #include <string.h>
@@ -27,8 +28,9 @@ struct call {
 };
 
 /* Runs on the painted stack. */
-static __attribute__((noinline)) void make_call(struct call *c)
+static void make_call(void *given)
 {
+    struct call *c = given;
     const struct event *e = c->event;
     peer_settings s = c->stream->settings;
 
@@ -49,14 +51,9 @@ static uint8_t paint(size_t i)
 /* Octets of the area that a call changed, from its top down; the area is painted anew. */
 static size_t depth_of(struct call *c)
 {
-    struct call *given = c;
     size_t low = 0;
 
-    __asm__ volatile("movq %%rsp, %%rbx\n\tmovq %1, %%rsp\n\tcall *%2\n\tmovq %%rbx, %%rsp"
-                     : "+D"(given) : "r"(area + AREA), "r"(make_call)
-                     : "rbx", "rax", "rcx", "rdx", "rsi", "r8", "r9", "r10", "r11", "memory", "cc",
-                       "xmm0", "xmm1", "xmm2", "xmm3", "xmm4", "xmm5", "xmm6", "xmm7", "xmm8", "xmm9", "xmm10", "xmm11",
-                       "xmm12", "xmm13", "xmm14", "xmm15");
+    call_on(area + AREA, make_call, c);
     while (low < AREA && area[low] == paint(low))
         low++;
     for (size_t i = low; i < AREA; i++)
