@@ -106,6 +106,14 @@ void let_pass(struct maker *m, uint16_t step)
     *next_event(m) = (struct event){ .kind = EVENT_CLOCK, .number = step };
 }
 
+bool drawn(unsigned *left, unsigned weight)
+{
+    if (*left < weight)
+        return true;
+    *left -= weight;
+    return false;
+}
+
 void join_at_ap(struct maker *m, uint64_t peer)
 {
     hear_authentication(m, peer, 1, 0);

@@ -34,9 +34,22 @@ void hear_farewell(struct maker *m, bool deauthentication, uint64_t to, uint64_t
 void ask(struct maker *m, uint8_t primitive, uint64_t address, uint16_t code);
 void let_pass(struct maker *m, uint16_t step);
 
+/* Weights: `left` was drawn below their sum; true for the one that it falls to. */
+bool drawn(unsigned *left, unsigned weight);
+
 /* Whole joins. */
 void join_at_ap(struct maker *m, uint64_t peer);
 void know_at_station(struct maker *m, uint64_t peer);
 void join_at_station(struct maker *m, uint64_t peer);
+
+/* The streams; each calls setup_done once. */
+void make_office_ap(struct maker *m, unsigned peers);
+void make_office_station(struct maker *m, unsigned peers);
+void make_storm_ap(struct maker *m, unsigned peers);
+void make_storm_station(struct maker *m, unsigned peers);
+void make_joins_ap(struct maker *m, unsigned peers);
+void make_joins_station(struct maker *m, unsigned peers);
+void make_clock_ap(struct maker *m, unsigned peers);
+void make_clock_station(struct maker *m, unsigned peers);
 
 #endif
