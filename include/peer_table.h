@@ -100,9 +100,9 @@ enum { PEER_DS_NOTHING = 0, PEER_DS_JOINED = 1, PEER_DS_LEFT = 2 };
 enum {
     PEER_NO_STATE = 0,
     PEER_STATE_1 = 1, /* not authenticated */
-    PEER_STATE_2 = 2, /* authenticated */
-    PEER_STATE_3 = 3, /* associated, RSNA not established */
-    PEER_STATE_4 = 4  /* associated, data may pass */
+    PEER_STATE_2 = 2, /* authenticated, not associated */
+    PEER_STATE_3 = 3, /* authenticated and associated, RSNA still to be established */
+    PEER_STATE_4 = 4  /* authenticated and associated, RSNA established or not required */
 };
 
 /* peer_record.exchange: asked of us and awaiting an acknowledgement are an AP's, sent is a station's. 4 is never well formed. */
@@ -155,8 +155,8 @@ enum {
 /* An address is a number: six octets, the first one lowest, so that a group address is odd. 2^48 and above is never valid. */
 typedef struct {
     uint64_t own;                    /* our address: individual, not 0 */
-    uint16_t authentication_timeout; /* 1 to 65,535 TU; a station's requests end after them */
-    uint16_t association_timeout;
+    uint16_t authentication_timeout; /* 1 to 65,535 TU: how long a station waits for the answer */
+    uint16_t association_timeout;    /* the same, for reassociation too */
     uint8_t role;                    /* PEER_AP or PEER_STATION */
     uint8_t rsna;                    /* 1 where RSNA is required, else 0 */
 } peer_settings;

@@ -23,9 +23,14 @@ find_tools() {
     exit 2
 }
 
-# find_library NAME: sets `library` to the archive: the one that LIBTABLE names, else the repository's own, proved and built.
+# find_library NAME: sets `library` to the archive: the one that LIBTABLE names, seen from where the command was given, else the
+# repository's own, proved and built.
 find_library() {
     library=${LIBTABLE:-target/staticlib/libtable.a}
+    case ${LIBTABLE:-/} in
+    /*) ;;
+    *) library=$OLDPWD/$LIBTABLE ;;
+    esac
     if [ -z "${LIBTABLE:-}" ]; then
         mkdir -p target
         rt staticlib table >target/staticlib.log 2>&1 || {

@@ -46,7 +46,10 @@ static void print_times(const char *name)
 static bool made(const char *name)
 {
     if (!stream_make(name, &stream)) {
-        fprintf(stderr, "speed: no stream '%s': 'speed list' names them\n", name);
+        fprintf(stderr, "speed: no stream '%s':", name);
+        for (size_t i = 0; i < stream_total; i++)
+            fprintf(stderr, " %s", stream_names[i]);
+        fprintf(stderr, "\n");
         exit(2);
     }
     return play_compared(name, &stream);
