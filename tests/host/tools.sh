@@ -1,6 +1,6 @@
-# shellcheck shell=bash disable=SC2034
 # tools.sh - sourced, from the repository's root: the x86-64 compiler, the way to run its programs, and the library to link.
 # On x86-64 these are the machine's own; elsewhere Debian's gcc-x86-64-linux-gnu, libc6-dev-amd64-cross and qemu-user.
+# shellcheck shell=bash disable=SC2034
 
 warnings="-std=c11 -Wall -Wextra -Wpedantic -Wconversion -Wshadow -Werror"
 independent="tests/independent/ask.c tests/independent/receive.c tests/independent/table.c" # all but its program
