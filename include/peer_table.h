@@ -29,7 +29,8 @@
  *
  * What comes back
  *   A refusal (1 to 9) has every other field 0 and leaves all octets of table and out as they were.
- *   Everything else is done at once: the frame in `out` is to be sent, the notice is to be passed on, the table is the new one.
+ *   Everything else is done at once: the frame in `out` is to be sent, the notice is to be passed on, the table is the new one. A frame
+ *   has no FCS, its duration and sequence control are 0 for the radio to fill in, and the host appends elements of its own.
  *
  * What it needs
  *   x86-64 and the calling convention of System V (gcc and clang but on Windows). It uses the SSE registers, which code that is called
@@ -142,15 +143,19 @@ enum { PEER_NOT_ACKNOWLEDGED = 0, PEER_ACKNOWLEDGED = 1 };
 /* Status and reason codes that the library writes, and three that hosts commonly give. Any other number of the standard may be given. */
 enum {
     PEER_STATUS_SUCCESS = 0,
-    PEER_STATUS_UNSPECIFIED = 1,      /* to a (re)association request in State 1; confirm of a join that can't be asked */
-    PEER_STATUS_ALGORITHM = 13,       /* to an authentication that is not open */
-    PEER_STATUS_FULL = 17,            /* to an authentication when no place is free */
-    PEER_STATUS_TRY_LATER = 30,       /* rejected for now; the comeback time is in an element of the response */
-    PEER_REASON_LEAVING = 3,          /* deauthenticated because leaving */
+    PEER_STATUS_UNSPECIFIED = 1,       /* to a (re)association request in State 1; confirm of a join that can't be asked */
+    PEER_STATUS_ALGORITHM = 13,        /* to an authentication that is not open */
+    PEER_STATUS_FULL = 17,             /* to an authentication when no place is free */
+    PEER_STATUS_TRY_LATER = 30,        /* rejected for now; the comeback time is in an element of the response */
+    PEER_REASON_LEAVING = 3,           /* deauthenticated because leaving */
     PEER_REASON_NOT_AUTHENTICATED = 6, /* class 2 frame in State 1 */
-    PEER_REASON_NOT_ASSOCIATED = 7,   /* class 3 frame in State 1 or 2 */
-    PEER_REASON_LEFT_BSS = 8          /* disassociated because leaving */
+    PEER_REASON_NOT_ASSOCIATED = 7,    /* class 3 frame in State 1 or 2 */
+    PEER_REASON_LEFT_BSS = 8           /* disassociated because leaving */
 };
+
+/* The element of a rejection that says after how many TU the station may come back: id 56, length 5, type 3, a number of 4 octets.
+   A comeback of 0 is a hold of 0: the station may ask again at once. Without the element the hold is PEER_HOLD_USUAL. */
+enum { PEER_COMEBACK_ELEMENT = 56, PEER_COMEBACK_LENGTH = 5, PEER_COMEBACK_TYPE = 3 };
 
 /* An address is a number: six octets, the first one lowest, so that a group address is odd. 2^48 and above is never valid. */
 typedef struct {

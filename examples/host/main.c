@@ -22,10 +22,11 @@ static struct side scanner_of(const char *name, uint64_t address)
                                                       .role = PEER_STATION } };
 }
 
-/* The library writes frames without elements. The host puts what it wants behind them: here the comeback time, id 56, type 3, in TU. */
+/* The library writes frames without elements. The host puts what it wants behind them: here the comeback time. */
 static size_t add_comeback(uint8_t *frame, size_t octets, uint32_t time)
 {
-    const uint8_t element[ELEMENT] = { 56, 5, 3, (uint8_t)time, (uint8_t)(time >> 8), (uint8_t)(time >> 16), (uint8_t)(time >> 24) };
+    const uint8_t element[ELEMENT] = { PEER_COMEBACK_ELEMENT, PEER_COMEBACK_LENGTH, PEER_COMEBACK_TYPE, (uint8_t)time,
+                                       (uint8_t)(time >> 8), (uint8_t)(time >> 16), (uint8_t)(time >> 24) };
 
     memcpy(frame + octets, element, ELEMENT);
     return octets + ELEMENT;
