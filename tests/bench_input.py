@@ -1,4 +1,4 @@
-"""Bench records and 802.11 frames as bytes: the one place where tests lay out input.
+"""Bench records and 802.11 frames as bytes: the one place where scenarios and tests lay out input.
 
 Addresses are given as text ('02:00:00:00:00:0a'), as six octets, or as a number whose
 lowest octet is the first one sent. Every number in a record or frame is little-endian.
@@ -6,6 +6,7 @@ Nothing here checks a rule: a caller may ask for any field value that fits its o
 """
 
 MARK = b"\x0b\x03"
+HEAD = 5  # octets of a record before its body: mark, kind, length
 SETTINGS, PRIMITIVE, FRAME, CLOCK = 0, 1, 2, 3
 ACCESS_POINT, STATION = 1, 2
 
@@ -20,6 +21,19 @@ COMEBACK = 3
 LONGEST_FRAME = 4096
 BROADCAST = b"\xff" * 6
 ZERO = bytes(6)
+
+# The fixed fields of a management body in the order of the air, each with its octets. What
+# follows them, mostly elements, is the rest; of other bodies nothing is fixed here.
+_RESPONSE = (("capability", 2), ("status", 2), ("aid", 2))
+BODIES = {
+    ASSOCIATION_REQUEST: (("capability", 2), ("listen_interval", 2)),
+    ASSOCIATION_RESPONSE: _RESPONSE,
+    REASSOCIATION_REQUEST: (("capability", 2), ("listen_interval", 2), ("current_ap", 6)),
+    REASSOCIATION_RESPONSE: _RESPONSE,
+    DISASSOCIATION: (("reason", 2),),
+    AUTHENTICATION: (("algorithm", 2), ("transaction", 2), ("status", 2)),
+    DEAUTHENTICATION: (("reason", 2),),
+}
 
 
 def address(given):
@@ -88,7 +102,12 @@ def frame_control(kind, subtype, version=0, to_ds=0, from_ds=0, flags=0):
 
 def control(subtype, receiver, sender=None, duration=0, version=0):
     """A control frame; CTS and ACK have no sender."""
-    octets = frame_control(CONTROL, subtype, version) + number(duration) + address(receiver)
+    return control_header(frame_control(CONTROL, subtype, version), receiver, sender, duration)
+
+
+def control_header(control_octets, receiver, sender=None, duration=0):
+    """The octets of a control frame up to its last address."""
+    octets = control_octets + number(duration) + address(receiver)
     return octets if sender is None else octets + address(sender)
 
 
@@ -99,34 +118,43 @@ def header(control_octets, receiver, sender, third=None, duration=0, sequence=0)
     return control_octets + number(duration) + receiver + address(sender) + third + number(sequence)
 
 
-def management(subtype, receiver, sender, body=b"", third=None, version=0):
-    return header(frame_control(MANAGEMENT, subtype, version), receiver, sender, third) + body
+def body(subtype, fields, rest=b""):
+    """A management body: its fixed fields, taken by name, and what follows them."""
+    laid = (address(fields[name]) if octets == 6 else number(fields[name], octets)
+            for name, octets in BODIES[subtype])
+    return b"".join(laid) + rest
 
 
-def data(receiver, sender, body=b"", subtype=0, to_ds=1, from_ds=0, version=0):
-    octets = frame_control(DATA, subtype, version, to_ds, from_ds)
-    return header(octets, receiver, sender) + body
+def management(subtype, receiver, sender, octets=b"", third=None, version=0):
+    return header(frame_control(MANAGEMENT, subtype, version), receiver, sender, third) + octets
+
+
+def data(receiver, sender, octets=b"", subtype=0, to_ds=1, from_ds=0, version=0):
+    control_octets = frame_control(DATA, subtype, version, to_ds, from_ds)
+    return header(control_octets, receiver, sender) + octets
 
 
 def authentication(receiver, sender, transaction=1, status=0, algorithm=0, rest=b""):
-    body = number(algorithm) + number(transaction) + number(status) + rest
-    return management(AUTHENTICATION, receiver, sender, body)
+    fields = dict(algorithm=algorithm, transaction=transaction, status=status)
+    return management(AUTHENTICATION, receiver, sender, body(AUTHENTICATION, fields, rest))
 
 
 def association_request(receiver, sender, capability=1, listen_interval=10, elements=b""):
-    body = number(capability) + number(listen_interval) + elements
-    return management(ASSOCIATION_REQUEST, receiver, sender, body)
+    fields = dict(capability=capability, listen_interval=listen_interval)
+    octets = body(ASSOCIATION_REQUEST, fields, elements)
+    return management(ASSOCIATION_REQUEST, receiver, sender, octets)
 
 
 def reassociation_request(receiver, sender, current_ap, capability=1, listen_interval=10,
                           elements=b""):
-    body = number(capability) + number(listen_interval) + address(current_ap) + elements
-    return management(REASSOCIATION_REQUEST, receiver, sender, body)
+    fields = dict(capability=capability, listen_interval=listen_interval, current_ap=current_ap)
+    octets = body(REASSOCIATION_REQUEST, fields, elements)
+    return management(REASSOCIATION_REQUEST, receiver, sender, octets)
 
 
 def _response(subtype, receiver, sender, status, aid, capability, elements):
-    body = number(capability) + number(status) + number(aid) + elements
-    return management(subtype, receiver, sender, body, third=sender)
+    octets = body(subtype, dict(capability=capability, status=status, aid=aid), elements)
+    return management(subtype, receiver, sender, octets, third=sender)
 
 
 def association_response(receiver, sender, status=0, aid=0xC001, capability=1, elements=b""):
@@ -138,11 +166,13 @@ def reassociation_response(receiver, sender, status=0, aid=0xC001, capability=1,
 
 
 def deauthentication(receiver, sender, reason=3, rest=b""):
-    return management(DEAUTHENTICATION, receiver, sender, number(reason) + rest)
+    octets = body(DEAUTHENTICATION, dict(reason=reason), rest)
+    return management(DEAUTHENTICATION, receiver, sender, octets)
 
 
 def disassociation(receiver, sender, reason=8, rest=b""):
-    return management(DISASSOCIATION, receiver, sender, number(reason) + rest)
+    octets = body(DISASSOCIATION, dict(reason=reason), rest)
+    return management(DISASSOCIATION, receiver, sender, octets)
 
 
 def any_frame(kind, subtype, receiver, sender, length, fill=b"\0", version=0, ds=0, flags=0):

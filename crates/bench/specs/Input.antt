@@ -1,6 +1,6 @@
 -- 01, "The bench program": "Standard input holds records: mark 0B 03, kind (1 octet), length (2), body; numbers little-endian."
 -- Assumes nothing.
-use Prim.Native.Nat.{ℕ, _-_, _+_}
+use Prim.Native.Nat.{ℕ, _-_}
 use mathlib.Core.Bool.{Bool, not, _&&_}
 use mathlib.Core.List.{List}
 use lib.Dec.{ltb, leb, eqb}

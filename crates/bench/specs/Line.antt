@@ -1,7 +1,7 @@
 -- 01, "The bench program": "No heading. Fields: event number from 1; refusal; verdict A, D or -; notice; its code; bytes written; DS J, L or
 -- -; peer's state after". One blank between fields, one LF at the end.
 -- Assumes nothing.
-use Prim.Native.Nat.{ℕ, _+_}
+use Prim.Native.Nat.{ℕ}
 use mathlib.Core.List.{List, [], _∷_, _++_}
 use lib.Dec.{ltb, eqb}
 use lib.ListN.{length, drop}

@@ -8,7 +8,7 @@ ghost use mathlib.Core.Path.{_≡_};
 ghost use Prim.Native.Nat.{_+_, _≤_};
 ghost use lib.ListN.{length};
 ghost use Rattle.octets.specs.Stored.{Stored};
-ghost use Rattle.bench.specs.Line.{verdictLetter, dsLetter, frontOf, backOf, lineOf, lineLength, lineIn, stopLength, stopIn};
+ghost use Rattle.bench.specs.Line.{verdictLetter, dsLetter, frontOf, backOf, lineLength, lineIn, stopLength, stopIn};
 
 // A, D or -.
 fn verdict_letter(verdict: u8) -> u8

@@ -11,7 +11,7 @@ ghost use mathlib.Core.Path.{_≡_};
 ghost use Prim.Native.Nat.{_+_, _*_, _≤_};
 ghost use lib.ListN.{length};
 ghost use Rattle.octets.specs.Stored.{Stored};
-ghost use Rattle.bench.specs.Trace.{octetsLine, octetsLength, octetsIn, currentLine, currentLength, currentIn, nameOf, timesOf, placeLine, placeLength, placeIn};
+ghost use Rattle.bench.specs.Trace.{octetsLine, octetsLength, octetsIn, currentLine, currentLength, currentIn, nameOf, timesOf, placeLength, placeIn};
 
 fn put_octets(out: &mut [u8], octets: &[u8]) -> usize
     requires { ⌜ 2 * length (now octets) + 64 ≤ length (now out) ⌝ }

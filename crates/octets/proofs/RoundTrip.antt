@@ -1,13 +1,12 @@
 -- Demand 2: "a frame written here reads back to the fields it was written from". The header's and body's fields (`round-trip`),
 -- what is heard of it (`heard-back`), and that it is taken for a whole frame (`shape-back`).
 -- Assumes nothing.
-use mathlib.Core.Path.{_≡_, refl, ap, sym, _∙_}
-use mathlib.Core.Bool.{true, false}
-use mathlib.Core.List.{List, _++_}
+use mathlib.Core.Path.{_≡_, refl}
+use mathlib.Core.List.{_++_}
 use Prim.Native.Nat.{ℕ, _+_, _*_, _/_, _%_, _<_, _^_}
 use native.Mathlib.Omega.{arith}
 use lib.Dec.{eqb}
-use borrow.Author.Tests.{eqb-true, eqb-false}
+use borrow.Author.Tests.{eqb-true}
 use Rattle.octets.specs.Field.{le, octets, field}
 use Rattle.octets.specs.Element.{walk}
 use Rattle.octets.specs.Class.{classOf}

@@ -1,14 +1,11 @@
 -- A frame's fields, read back from its octets: what the round trip is about.
 -- Assumes nothing.
 use Prim.Native.Nat.{ℕ, _/_, _%_, _<_, _^_}
-use mathlib.Core.Path.{_≡_}
 use mathlib.Core.List.{List}
-use lib.ListN.{take, drop}
 use Rattle.octets.specs.Field.{field}
 use Rattle.octets.specs.declared.frame.Frame.{Frame}
 use Rattle.octets.specs.declared.frame.Body.{Body}
 use Rattle.octets.specs.declared.frame.Body.the-variants.{Authentication, AssociationRequest, ReassociationRequest, Response, Reason}
-use Rattle.octets.specs.declared.heard.Kind.{Kind}
 use Rattle.octets.specs.declared.heard.Kind.the-variants.{Association, Reassociation}
 use Rattle.octets.specs.declared.heard.Heard.{Heard}
 use Rattle.octets.specs.declared.heard.Heard.the-variants as heard

@@ -5,7 +5,7 @@ ghost use mathlib.Core.Path.{_≡_};
 ghost use Prim.Native.Nat.{_+_, _≤_};
 ghost use lib.ListN.{length};
 ghost use Rattle.octets.specs.Stored.{Stored};
-ghost use Rattle.octets.specs.Frame.{aidField, capabilityOf, headOf, bodyOf, bytesOf, writtenOf, lengthOf};
+ghost use Rattle.octets.specs.Frame.{aidField, capabilityOf, headOf, bodyOf, writtenOf, lengthOf};
 
 pub enum Body {
     Authentication {

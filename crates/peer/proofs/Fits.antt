@@ -10,9 +10,9 @@ use Rattle.octets.proofs.Branch.{by-bool}
 use Rattle.octets.specs.Address.{validOf}
 use Rattle.octets.specs.declared.heard.Kind.the-variants.{Association, Authentication, Reassociation}
 use Rattle.octets.specs.declared.heard.Kind.{Kind}
-use Rattle.peer.specs.Fit.{stands, askedFits, awaitingFits, sentFits, exchangeFits, holdFits, recordFits}
+use Rattle.peer.specs.Fit.{stands, askedFits, awaitingFits, sentFits, exchangeFits, holdFits, recordFits, placeFits}
 use Rattle.peer.specs.Moves.{movedOf}
-use Rattle.peer.specs.Record.{associates, changedOf, isJoined, underWay, sentOf, askedOf, kindOf}
+use Rattle.peer.specs.Record.{associates, changedOf, isFree, isJoined, underWay, sentOf, askedOf, kindOf}
 use Rattle.peer.specs.Settings.{ap, station}
 use Rattle.peer.specs.declared.moves.Move.the-variants as move
 use Rattle.peer.specs.declared.moves.Move.{Move}
@@ -69,6 +69,18 @@ pub record Keeps (s : Settings) (busy : Bool) (p q : Record) (sole : Bool) : Typ
   pub same : q .address ≡ p .address
   pub joins : eqb (s .role) ap ≡ false → sole ≡ false → isJoined q ≡ true → isJoined p ≡ true
   pub starts : eqb (s .role) ap ≡ false → busy ≡ true → associates q ≡ true → associates p ≡ true
+
+-- The place q comes of p: the same, but that it may be free.
+pub record Placed (s : Settings) (busy : Bool) (p q : Record) (sole : Bool) : Type 0 where
+  pub place : placeFits s q ≡ true
+  pub same : eqb (q .address) 0 ≡ false → q .address ≡ p .address
+  pub joins : eqb (s .role) ap ≡ false → sole ≡ false → isJoined q ≡ true → isJoined p ≡ true
+  pub starts : eqb (s .role) ap ≡ false → busy ≡ true → associates q ≡ true → associates p ≡ true
+
+pub placed : {s : Settings} {busy sole : Bool} {p q : Record} → Keeps s busy p q sole → Placed s busy p q sole
+unfolding placeFits
+placed {s} {q} k =
+    record { place = or-right (isFree q) _ (of-fits s q (k .fits)); same = λ e. k .same; joins = k .joins; starts = k .starts }
 
 -- ---- the states
 

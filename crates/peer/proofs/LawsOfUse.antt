@@ -2,15 +2,14 @@
 -- ends. Each is about the definitions that the code is proved equal to.
 -- Assumes nothing.
 use Prim.Native.Nat.{ℕ, _+_, _-_, _≤_, _<_}
-use mathlib.Core.Path.{_≡_, refl, ap, sym, _∙_}
+use mathlib.Core.Path.{_≡_, refl, sym, _∙_}
 use mathlib.Core.Bool.{Bool, true, false, not, _&&_, _||_}
 use native.Mathlib.Omega.{arith}
-use lib.Dec.{ltb, leb, eqb}
-use borrow.Author.Tests.{ltb-true, ltb-false, eqb-true, eqb-false, eq-eqb}
+use lib.Dec.{ltb, eqb}
+use borrow.Author.Tests.{ltb-true, eqb-true, eqb-false}
 use Rattle.octets.specs.Pick.{pick}
 use Rattle.octets.proofs.Branch.{by-bool, pick-both, pick-by}
 use Rattle.octets.specs.declared.class.FrameClass.{FrameClass}
-use Rattle.octets.specs.declared.element.Comeback.{Comeback}
 use Rattle.octets.specs.declared.element.Comeback.the-variants.{Given}
 use Rattle.octets.specs.declared.heard.Kind.{Kind}
 use Rattle.octets.specs.declared.heard.Heard.{Heard}
@@ -19,13 +18,13 @@ use Rattle.peer.specs.Codes.{lastAid}
 use Rattle.peer.specs.Record.{changedOf, sentOf, kindOf, underWay, freeOf}
 use Rattle.peer.specs.Moves.{movedOf}
 use Rattle.peer.specs.Turn.{admit, discard, confirmOf, toldOf, turnOf, soleOf, endedOf, begunOf, repliedOf, stillOf}
-use Rattle.peer.specs.Filter.{passesOf, barredOf}
+use Rattle.peer.specs.Filter.{passesOf}
 use Rattle.peer.specs.Authentication.{requestedOf, authenticationAtAp, authenticationAtStation, authenticationHeard, answeredMove}
 use Rattle.peer.specs.Farewell.{deauthenticationHeard, disassociationHeard}
 use Rattle.peer.specs.Association.{requestHeard, acceptedOf, rejectedOf, responseHeard}
 use Rattle.peer.specs.Hear.{isExchange, actOf, groupHeard, hearOf}
 use Rattle.peer.specs.Ask.{startedOf, answerOf, deauthenticateOf, failedOf, associateOf, reassociateOf, disassociateOf, awaitedOf, declinedOf, respondOf, secureOf, reportedMove, reportOf, askOf}
-use Rattle.peer.specs.Tick.{expiredMove, timedOf, freedOf, tickOf}
+use Rattle.peer.specs.Tick.{timedOf, freedOf, tickOf}
 use Rattle.peer.specs.declared.settings.Settings.{Settings}
 use Rattle.peer.specs.declared.record.Record.{Record}
 use Rattle.peer.specs.declared.refuse.Others.{Others}

@@ -2,7 +2,7 @@
 -- Assumes nothing.
 use Prim.Native.Nat.{ℕ, _<_, _-_}
 use mathlib.Core.Path.{_≡_, refl, sym, _∙_}
-use mathlib.Core.Bool.{true, false, _&&_}
+use mathlib.Core.Bool.{Bool, true, false, _&&_}
 use native.Mathlib.Omega.{arith}
 use lib.Dec.{eqb, ltb}
 use borrow.Author.Tests.{eq-eqb, ne-eqb, eqb-true, ltb-true}
@@ -17,19 +17,11 @@ use Rattle.peer.specs.declared.moves.Move.{Move}
 use Rattle.peer.specs.declared.record.Exchange.the-variants.{None}
 use Rattle.peer.specs.declared.record.Record.{Record}
 use Rattle.peer.specs.declared.settings.Settings.{Settings}
-use Rattle.peer.proofs.Fits.{Fits, Keeps, both, calm, calm-moved, fits-of, keeps-changed, moved-high, moved-low, of-fits, or-right, suits-still, wrong}
-
--- The place after a clock step: it is well formed, has its address or is free, and is in State 3 or 4, or has a (re)association, only where
--- it was so.
-pub record Ticks (s : Settings) (p q : Record) : Type 0 where
-  pub place : placeFits s q ≡ true
-  pub same : eqb (q .address) 0 ≡ false → q .address ≡ p .address
-  pub joins : eqb (s .role) ap ≡ false → isJoined q ≡ true → isJoined p ≡ true
-  pub starts : eqb (s .role) ap ≡ false → associates q ≡ true → associates p ≡ true
+use Rattle.peer.proofs.Fits.{Fits, Keeps, Placed, both, calm, calm-moved, fits-of, keeps-changed, moved-high, moved-low, placed, suits-still, wrong}
 
 -- the statement
 abbrev pub ClockKeeps : Type 0
-ClockKeeps = (s : Settings) (p : Record) (d : ℕ) → placeFits s p ≡ true → Ticks s p (tickOf s p d .peer)
+ClockKeeps = (s : Settings) (p : Record) (d : ℕ) → placeFits s p ≡ true → Placed s true p (tickOf s p d .peer) false
 
 -- "an AP's holds are 0", and stay so
 hold-less : (role hold d : ℕ) → holdFits role hold ≡ true → holdFits role (hold - d) ≡ true
@@ -65,19 +57,19 @@ timed-keeps s p d f = by-bool (eqb (p .left) 0)
     held : holdFits (s .role) (p .hold - d) ≡ true
     held = hold-less (s .role) (p .hold) d (f .held)
 
--- "every record in State 1 without exchange and with hold 0 is freed"
-free-ticks : (s : Settings) (p : Record) → Ticks s p freeOf
+-- "every record in State 1 without exchange and with hold 0 is freed"; any place may be
+free-placed : {s : Settings} {busy sole : Bool} {p : Record} → Placed s busy p freeOf sole
 unfolding placeFits isFree isJoined associates
-free-ticks s p = record { place = refl; same = λ e. wrong (sym e); joins = λ a j. wrong j; starts = λ a j. wrong j }
+free-placed = record { place = refl; same = λ e. wrong (sym e); joins = λ a b j. wrong j; starts = λ a b j. wrong j }
 
-freed-keeps : (s : Settings) (p q : Record) → Ticks s p q → Ticks s p (freedOf q)
+pub freed-placed : {s : Settings} {busy sole : Bool} {p q : Record} → Placed s busy p q sole → Placed s busy p (freedOf q) sole
 unfolding freedOf
-freed-keeps s p q t = by-bool (eqb (q .state) 1 && (eqb (q .hold) 0 && eqb (underWay (q .exchange)) 0))
-    (λ e. rw e (free-ticks s p))
-    (λ e. rw e t)
+freed-placed {q} k = by-bool (eqb (q .state) 1 && (eqb (q .hold) 0 && eqb (underWay (q .exchange)) 0))
+    (λ e. rw e free-placed)
+    (λ e. rw e k)
 
 -- a free place stays free
-free-timed : (s : Settings) (p : Record) (d : ℕ) → isFree p ≡ true → Ticks s p (timedOf s p d .peer)
+free-timed : (s : Settings) (p : Record) (d : ℕ) → isFree p ≡ true → Placed s true p (timedOf s p d .peer) false
 unfolding placeFits isFree isJoined associates timedOf changedOf
 free-timed s p d h =
     let a = both (eqb (p .address) 0) _ h in
@@ -86,18 +78,8 @@ free-timed s p d h =
     let k = both (eqb (p .hold) 0) _ (l .1) in
     let z : p .hold ≡ 0 = eqb-true (p .hold) 0 (k .0) in
     let z′ : eqb (p .hold - d) 0 ≡ true = eq-eqb (p .hold - d) 0 (omega arith) in
-    rw (l .0) (record { place = rw (a .0, b .0, z′, k .1); same = λ e. refl; joins = λ a j. j; starts = λ a j. j })
+    rw (l .0) (record { place = rw (a .0, b .0, z′, k .1); same = λ e. refl; joins = λ a b j. j; starts = λ a b j. j })
 
 pub tick-keeps : ClockKeeps
 unfolding tickOf placeFits
-tick-keeps s p d h = freed-keeps s p (timedOf s p d .peer) (by-bool (isFree p) (free-timed s p d) used)
-  where
-    used : isFree p ≡ false → Ticks s p (timedOf s p d .peer)
-    used e =
-        let k : Keeps s true p (timedOf s p d .peer) false = timed-keeps s p d (fits-of s p (rw e at h)) in
-        record {
-          place = or-right (isFree (timedOf s p d .peer)) _ (of-fits s (timedOf s p d .peer) (k .fits));
-          same = λ e. k .same;
-          joins = λ a j. k .joins a refl j;
-          starts = λ a j. k .starts a refl j;
-        }
+tick-keeps s p d h = freed-placed (by-bool (isFree p) (free-timed s p d) (λ e. placed (timed-keeps s p d (fits-of s p (rw e at h)))))

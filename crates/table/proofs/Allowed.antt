@@ -13,7 +13,7 @@ use lib.Dec.{T, eqb, ltb, ltb→lt, eqb→eq}
 use lib.ListN.{length, getD, getElem?, length-map, List·getD-map}
 use borrow.Author.Tests.{eqb-true, eqb-false, eq-eqb, lt-ltb}
 use Rattle.table.specs.Order.{Moved, Has, Named}
-use Rattle.table.proofs.AnyOrder.{inside}
+use Rattle.table.proofs.Weave.{inside}
 
 and-left : (a b : Bool) → T (a && b) → T a
 and-left true b h = tt

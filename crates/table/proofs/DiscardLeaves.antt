@@ -1,12 +1,13 @@
 -- 01, A received frame: a frame that is discarded changes no record, and neither does a CTS or an ACK.
 -- Assumes nothing.
-use Prim.Native.Nat.{ℕ, zero, suc}
-use mathlib.Core.Path.{_≡_, refl, ap, sym, _∙_}
-use mathlib.Core.Bool.{Bool, true, false, not, _&&_, _||_}
-use mathlib.Core.List.{List, [], _∷_, map}
+use Prim.Native.Nat.{ℕ}
+use mathlib.Core.Path.{_≡_, refl}
+use mathlib.Core.Bool.{Bool, true, false, not}
+use mathlib.Core.List.{List}
 use native.Mathlib.Omega.{arith}
 use lib.Dec.{eqb, ltb}
-use lib.ListN.{set, getD}
+use lib.ListN.{getD}
+use lib.Seq.{set-getD}
 use Rattle.octets.specs.Pick.{pick}
 use Rattle.octets.specs.Frame.{longest}
 use Rattle.octets.proofs.Branch.{pick-both}
@@ -18,7 +19,6 @@ use Rattle.peer.specs.Hear.{hearOf}
 use Rattle.peer.proofs.LawsOfUse.{discard-turn}
 use Rattle.peer.specs.declared.settings.Settings.{Settings}
 use Rattle.peer.specs.declared.record.Record.{Record}
-use Rattle.peer.specs.declared.turn.Turn.{Turn}
 use Rattle.table.specs.Places.{onFound, findOf, addressesOf}
 use Rattle.table.specs.Fit.{wellFormed}
 use Rattle.table.specs.Answer.{settledOf, refusedOf}
@@ -31,12 +31,6 @@ use Rattle.table.specs.declared.read.Reading.{Reading}
 use Rattle.table.specs.declared.read.Reading.the-variants.{Refused, Discarded, Admitted, From}
 use Rattle.table.specs.declared.answer.Met.{Met}
 
--- to store what is there changes nothing
-set-self : {A : Type 0} (t : List A) (i : ℕ) (d : A) → set t i (getD t i d) ≡ t
-set-self [] i d = refl
-set-self (x ∷ t) zero d = refl
-set-self (x ∷ t) (suc i) d = ap (λ (l : List _). x ∷ l) (set-self t i d)
-
 Leaves : List Record → Met → Type 0
 Leaves t m = m .answer .verdict ≡ 2 → m .table ≡ t
 
@@ -45,7 +39,7 @@ module _ (s : Settings) (t : List Record) (k : FrameClass) (g : Bool) (h : Heard
   unfolding Leaves seatedOf
   seated-leaves i v =
       let d = discard-turn s (getD t i freeOf) k g h v in
-      rw (d .1, d .0) (set-self t i freeOf)
+      rw (d .1, d .0) (set-getD t i freeOf)
 
   newcomer-leaves : (free : Found) (a : ℕ) → Leaves t (newcomerOf t free (hearOf s (freshOf a) k g h) (fullOf s (freshOf a)))
   unfolding Leaves newcomerOf strangerOf startsOf seatedOf freshOf

@@ -7,9 +7,13 @@ pub mod RefusedExactly
 pub mod RefusedKeeps
 pub mod WrittenCount
 pub mod Timeouts
+pub mod Well
 pub mod StepKeeps
+pub mod Weave
 pub mod AnyOrder
 pub mod OwnRecord
+pub mod NamedPeer
+pub mod OwnTurn
 pub mod DemandThree
 pub mod Allowed
 pub mod OrderExamples

@@ -116,16 +116,27 @@ first-none f (p ∷ ps) n e = by-bool (f p)
 swap : (a b : ℕ) → eqb a b ≡ false → eqb b a ≡ false
 swap a b e = ne-eqb b a (λ (z : b ≡ a). eqb-false a b e (sym z))
 
--- an address that is nowhere may be stored anywhere
-pub distinct-set : (ads : List ℕ) (i a : ℕ) → distinctOf ads ≡ true → allOf (apart a) ads ≡ true → distinctOf (set ads i a) ≡ true
+-- an address that is alone is so behind the first, and apart from it
+alone-tail : (a b : ℕ) (bs : List ℕ) → aloneIn a (b ∷ bs) ≡ true → aloneIn a bs ≡ true
+unfolding allTails aloneIn
+alone-tail a b bs k = by-bool (eqb a 0) (λ z. rw z) (λ z. or-right (eqb a 0) _ (both (apart a b) _ (rw z at k) .1))
+
+alone-apart : (a b : ℕ) (bs : List ℕ) → eqb b 0 ≡ false → aloneIn a (b ∷ bs) ≡ true → apart b a ≡ true
+unfolding allTails aloneIn
+alone-apart a b bs e k = by-bool (eqb a 0)
+    (λ z. rw (eqb-true a 0 z, swap b 0 e))
+    (λ z. rw (swap b a (not-true _ (both (apart a b) _ (rw z at k) .0))))
+
+-- an address that is 0 or nowhere may be stored anywhere
+pub distinct-set : (ads : List ℕ) (i a : ℕ) → distinctOf ads ≡ true → aloneIn a ads ≡ true → distinctOf (set ads i a) ≡ true
 unfolding allTails aloneIn
 distinct-set [] i a h k = refl
-distinct-set (b ∷ bs) zero a h k = join (or-right (eqb a 0) _ (both (apart a b) _ k .1)) (both (aloneIn b bs) _ h .1)
+distinct-set (b ∷ bs) zero a h k = join (alone-tail a b bs k) (both (aloneIn b bs) _ h .1)
 distinct-set (b ∷ bs) (suc i) a h k =
     join {a = aloneIn b (set bs i a)} (by-bool (eqb b 0)
     (λ e. rw e)
-    (λ e. rw e (all-set (apart b) bs i a (rw e at (both (aloneIn b bs) _ h .0)) (rw (swap b a (not-true _ (both (apart a b) _ k .0)))))))
-    (distinct-set bs i a (both (aloneIn b bs) _ h .1) (both (apart a b) _ k .1))
+    (λ e. rw e (all-set (apart b) bs i a (rw e at (both (aloneIn b bs) _ h .0)) (alone-apart a b bs e k))))
+    (distinct-set bs i a (both (aloneIn b bs) _ h .1) (alone-tail a b bs k))
 
 -- addresses that stay or become 0 stay distinct
 module _ (w : Record → Bool) (g : Record → Record) (k : (p : Record) → w p ≡ true → eqb (g p .address) 0 ≡ false → g p .address ≡ p .address) where

@@ -10,7 +10,7 @@ use mathlib.Core.Path.{_≡_, refl, sym, ap, _∙_}
 use mathlib.Core.Bool.{Bool, true, false, not, _&&_, _||_, true≢false}
 use mathlib.Core.List.{List, [], _∷_}
 use lib.Dec.{eqb, ltb, leb}
-use lib.ListN.{length, getD, set, length-map, List·getD-map}
+use lib.ListN.{length, getD, length-map, List·getD-map}
 use borrow.Author.Tests.{eqb-true, eqb-false, eq-eqb, not-true}
 use Rattle.octets.proofs.Branch.{and-left, and-right, pick-both}
 use Rattle.octets.specs.Pick.{pick}
@@ -56,16 +56,6 @@ unfolding allTails
 all-at f [] i d e h = absurd (not-suc-le-zero h)
 all-at f (x ∷ t) zero d e h = and-left (f x) (allOf f t) e
 all-at f (x ∷ t) (suc i) d e h = all-at f t i d (and-right (f x) (allOf f t) e) (le-of-suc-le-suc h)
-
-pub all-set : {A : Type 0} (f : A → Bool) (t : List A) (i : ℕ) (v : A) → allOf f t ≡ true → f v ≡ true → allOf f (set t i v) ≡ true
-unfolding allTails
-all-set f [] i v e h = refl
-all-set f (x ∷ t) zero v e h = rw (h, and-right (f x) (allOf f t) e)
-all-set f (x ∷ t) (suc i) v e h = rw (and-left (f x) (allOf f t) e, all-set f t i v (and-right (f x) (allOf f t) e) h)
-
-pub or-right : (a b : Bool) → b ≡ true → (a || b) ≡ true
-or-right true b h = refl
-or-right false b h = h
 
 -- an address that is not 0 and stands at place i is found there
 find-from : (ads : List ℕ) (n i a : ℕ) → distinctOf ads ≡ true → i < length ads → getD ads i 0 ≡ a → eqb a 0 ≡ false → firstFrom (λ b. eqb b a) n ads ≡ At (n + i)

@@ -1,5 +1,5 @@
--- The octets of a table and its records: one another's inverse (`octets-of-records`, `records-of-octets`), what is read at a place, and
--- what it is to store a record there.
+-- The octets of a table and its records: octets to records and back are the same octets (`octets-of-records`), a record's row gives it
+-- back (`record-back`), what is read at a place, and how the numbers of exchanges are tested place by place.
 -- Assumes nothing.
 use mathlib.Core.Path.{_≡_, refl, ap, sym, _∙_}
 use mathlib.Core.Bool.{Bool, true, false, _&&_}

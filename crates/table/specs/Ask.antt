@@ -1,8 +1,8 @@
 -- 01, "Primitives from our own side", in the table: "primitives 1, 2, 3, 5, 9, 7, 8, 6".
 -- Assumes nothing.
 use Prim.Native.Nat.{ℕ}
-use mathlib.Core.Bool.{Bool, true, false, not, _&&_, _||_}
-use mathlib.Core.List.{List, [], _∷_, _++_}
+use mathlib.Core.Bool.{Bool, true, false, not, _&&_}
+use mathlib.Core.List.{List, [], _∷_}
 use lib.Dec.{ltb, eqb}
 use Rattle.octets.specs.Address.{validOf}
 use Rattle.octets.specs.Frame.{longest}

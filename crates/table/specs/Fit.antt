@@ -1,7 +1,7 @@
 -- 01, "Well formed": every clause, for settings and table. (That there are 32 records is the table's type.)
 -- Assumes nothing.
 use Prim.Native.Nat.{ℕ, _+_, _%_}
-use mathlib.Core.Bool.{Bool, true, false, not, _&&_, _||_}
+use mathlib.Core.Bool.{Bool, not, _&&_, _||_}
 use mathlib.Core.List.{List}
 use lib.Dec.{leb, eqb}
 use Rattle.octets.specs.Pick.{pick}

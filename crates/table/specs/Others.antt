@@ -1,7 +1,7 @@
 -- What a station's primitives ask of the whole table: which record is in State 3 or 4, and whether any has a (re)association.
 -- Assumes nothing.
 use Prim.Native.Nat.{ℕ}
-use mathlib.Core.Bool.{Bool, false}
+use mathlib.Core.Bool.{false}
 use mathlib.Core.List.{List, [], _∷_}
 use lib.Dec.{ltb, eqb}
 use Rattle.octets.specs.Pick.{pick}

@@ -9,7 +9,7 @@ ghost use Rattle.table.specs.Fit.{crowdOf};
 ghost use Rattle.table.specs.Others.{associatedOf, othersOf};
 
 // From the address of the first record in State 3 or 4, and the counts.
-pub fn others(s: Settings, associated: u64, crowd: Counts) -> Others
+pub(crate) fn others(s: Settings, associated: u64, crowd: Counts) -> Others
     ensures { λ r. ⌜ ((t : List Peer) → associated ≡ associatedOf t → crowd ≡ crowdOf t → r ≡ othersOf s t) ⌝ }
 {
     if s.role == Settings::AP {

@@ -169,7 +169,7 @@ fn stored(table: &mut [u8], i: usize, p: Record, sole: bool)
 }
 
 // A table with a change.
-pub fn met(table: &mut [u8], c: Change)
+pub(crate) fn met(table: &mut [u8], c: Change)
     ensures { λ _. ⌜ (isTable (now (table .entry)) ≡ true → now (table .exit) ≡ octetsOf (metOf (recordsOf (now (table .entry))) c .table)) ⌝ }
 {
     if table.len() != 512 {

@@ -47,13 +47,13 @@ fn kept(answer: Answer, reply: Reply) -> Change
 }
 
 // The table stays, and nothing is said.
-pub fn settled(answer: Answer) -> Change
+pub(crate) fn settled(answer: Answer) -> Change
     ensures { λ r. ⌜ ((t : List Peer) → metOf t r ≡ settledOf t answer) ⌝ }
 {
     kept(answer, Reply::Silent)
 }
 
-pub fn refused(number: u8) -> Change
+pub(crate) fn refused(number: u8) -> Change
     ensures { λ r. ⌜ ((t : List Peer) → metOf t r ≡ refusedOf t number) ⌝ }
 {
     settled(Answer::refusal(number))
@@ -106,7 +106,7 @@ fn newcomer(addresses: &[u64], turn: Turn, full: Turn) -> Change
 }
 
 // A turn of the peer found at a place, or nowhere, in a table with these addresses.
-pub fn turn_in(addresses: &[u64], at: Found, turn: Turn, full: Turn) -> Change
+pub(crate) fn turn_in(addresses: &[u64], at: Found, turn: Turn, full: Turn) -> Change
     ensures { λ r. ⌜ ((t : List Peer) → metOf t r ≡ turnIn t at (findOf (now (addresses .entry)) 0) turn full) ⌝ }
 {
     match at {

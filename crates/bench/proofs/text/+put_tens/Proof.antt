@@ -1,15 +1,12 @@
 -- `bench::text::put_tens` meets its contract: the digits before the last are put by the call of itself, which has one digit less.
 -- Assumes nothing.
-use mathlib.Core.Path.{refl, sym, ap, _∙_}
-use mathlib.Core.List.{[], _∷_, _++_}
-use Prim.Native.Nat.{_+_, _-_, _/_, _≤_}
+use mathlib.Core.Path.{refl}
+use Prim.Native.Nat.{_-_, _/_}
 use native.Mathlib.Omega.{arith}
 use borrow.Author.Needs.{needs}
-use borrow.Author.Tests.{lt-ltb, le-ltb, eq-eqb}
-use lib.ListN.{length, length-append}
-use denote.Ref.{now}
+use borrow.Author.Tests.{lt-ltb, le-ltb}
+use lib.ListN.{length-append}
 use Rattle.octets.proofs.Stores.{then}
-use Rattle.bench.specs.Text.{tens}
 use Rattle.bench.proofs.Digits.{tens-none, tens-more, tens-length}
 use Prim.Native.Nat.{ℕ, _<_}
 use borrow.Fn.Kinds.{In}

@@ -2,17 +2,18 @@
 -- Assumes nothing.
 use Rattle.octets.proofs.Lengths.{body-short, bytes-length, head-length}
 use Rattle.octets.proofs.Stores.{front, then}
-use Rattle.octets.specs.Frame.{bytesOf, lengthOf, writtenOf}
+use Rattle.octets.specs.Frame.{bytesOf, lengthOf, longest, writtenOf}
 use borrow.Author.Needs.{needs}
 use borrow.Author.Tests.{le-ltb, lt-ltb}
 use mathlib.Core.Path.{_∙_, refl, sym}
+use native.Mathlib.Nat.{lt-of-lt-of-le}
 use native.Mathlib.Omega.{arith}
 use Rattle.octets.proofs.frame.write.Statement.{statement}
 use Rattle.octets.proofs.frame.write.Tie as tie
 
 returns : tie.Need-returns
 unfolding lengthOf writtenOf
-returns c = rw (lt-ltb _ _ (c .if1 .taken)) (refl, refl)
+returns c = rw (lt-ltb _ longest (lt-of-lt-of-le (c .if1 .taken) (omega arith))) (refl, refl)
 
 put-head-requires : tie.Need-put-head-requires
 put-head-requires c κs = search needs

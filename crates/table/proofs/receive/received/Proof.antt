@@ -1,9 +1,13 @@
 -- `table::receive::received` meets its contract: each answer by the tests that led to it and what its callees ensure.
 -- Assumes nothing.
+use Prim.Native.Nat.{_≤_}
+use Rattle.octets.specs.Frame.{longest}
 use Rattle.table.proofs.Views.{well-of}
 use Rattle.table.specs.Receive.{receivedOf}
 use borrow.Author.Needs.{needs}
 use borrow.Author.Tests.{le-ltb, lt-ltb}
+use native.Mathlib.Nat.{lt-of-lt-of-le}
+use native.Mathlib.Omega.{arith}
 use Rattle.table.proofs.receive.received.Statement.{statement}
 use Rattle.table.proofs.receive.received.Tie as tie
 
@@ -12,7 +16,7 @@ refused-requires c κs = search needs
 
 returns : tie.Need-returns
 unfolding receivedOf
-returns c = rw (lt-ltb _ _ (c .before .if1 .taken)) (c .refused .ensures (c .before .before .before .args .t))
+returns c = rw (lt-ltb _ longest (lt-of-lt-of-le (c .before .if1 .taken) (omega arith))) (c .refused .ensures (c .before .before .before .args .t))
 
 survey-requires : tie.Need-survey-requires
 survey-requires c κs = search needs
@@ -28,7 +32,9 @@ refused-requires-2 c κs = search needs
 
 returns-2 : tie.Need-returns-2
 unfolding receivedOf
-returns-2 c = rw (le-ltb _ _ (c .before .before .before .before .before .before .if1 .left), ← well-of (c .before .before .before .before .before .before .before .before .args .s) (c .before .before .before .before .before .before .before .before .args .t) (c .before .before .before .before .before .survey .result) (c .before .before .before .before .before .survey .ensures) _ (c .before .before .well .ensures), c .before .if2 .left) (c .refused2 .ensures (c .before .before .before .before .before .before .before .before .args .t))
+returns-2 c =
+    let room : longest ≤ c .before .before .before .before .before .before .before .before .args .room = omega arith in
+    rw (le-ltb _ _ room, ← well-of (c .before .before .before .before .before .before .before .before .args .s) (c .before .before .before .before .before .before .before .before .args .t) (c .before .before .before .before .before .survey .result) (c .before .before .before .before .before .survey .ensures) _ (c .before .before .well .ensures), c .before .if2 .left) (c .refused2 .ensures (c .before .before .before .before .before .before .before .before .args .t))
 
 slice-aggregate-heard-at : tie.Need-slice-aggregate-heard-at
 slice-aggregate-heard-at c = search needs

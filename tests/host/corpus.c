@@ -1,0 +1,107 @@
+/* corpus.c - bench records (mark 0B 03, kind, length, body) from a file: each event a call on one table, as the bench program does. */
+#include "draw.h"
+#include "runs.h"
+
+#include <stdio.h>
+#include <stdlib.h>
+#include <string.h>
+
+enum { HEADER = 5, SETTINGS = 0, PRIMITIVE = 1, FRAME = 2, CLOCK = 3, SCRATCH = 256 };
+
+/* The bodies' lengths that the bench takes; a frame has any up to 4,096. */
+static bool length_fits(unsigned kind, size_t length)
+{
+    return (kind == SETTINGS && length == 12) || (kind == PRIMITIVE && length == 9) || (kind == FRAME && length <= PT_FRAME_MAX) ||
+           (kind == CLOCK && length == 2);
+}
+
+static void take_event(struct call *call, unsigned kind, const uint8_t *body, size_t length)
+{
+    call->kind = kind == PRIMITIVE ? CALL_ASK : kind == FRAME ? CALL_RECEIVE : CALL_PASS;
+    if (kind == PRIMITIVE) {
+        call->primitive = body[0];
+        call->address = pt_get48(body + 1);
+        call->number = pt_get16(body + 7);
+    } else if (kind == FRAME) {
+        memcpy(call->frame, body, length);
+        call->frame_octets = length;
+    } else {
+        call->number = pt_get16(body);
+    }
+}
+
+static void take_settings(struct call *call, const uint8_t *body)
+{
+    call->settings = (peer_settings){ .role = body[0], .own = pt_get48(body + 1), .rsna = body[7],
+                                      .authentication_timeout = pt_get16(body + 8), .association_timeout = pt_get16(body + 10) };
+}
+
+/* The same event with too short a buffer, or over a spoilt copy of the table. It leaves no trace, and the walk goes on. */
+static void disturb(const struct call *call, struct chance *chance)
+{
+    static struct call other;
+
+    other = *call;
+    if (percent(chance, 50)) {
+        other.out_octets = below(chance, call->kind == CALL_PASS ? PEER_PASS_OUT_LEAST : PEER_OUT_LEAST);
+    } else {
+        other.table_kind = TABLE_SPOILT;
+        spoil_table(chance, &other.settings, other.table);
+    }
+    checked(&other, chance);
+}
+
+/* Ends, as the bench does, at the first record at fault. */
+static void play(const uint8_t *p, size_t count, struct call *call, struct chance *chance)
+{
+    size_t at = 0;
+    bool first = true;
+
+    while (count - at >= HEADER) {
+        unsigned kind = p[at + 2];
+        size_t length = pt_get16(p + at + 3);
+
+        if (p[at] != 0x0B || p[at + 1] != 0x03 || (kind == SETTINGS) != first || !length_fits(kind, length) ||
+            count - at - HEADER < length)
+            return;
+        if (first) {
+            take_settings(call, p + at + HEADER);
+        } else {
+            take_event(call, kind, p + at + HEADER, length);
+            call->index++;
+            call->out_octets = SCRATCH;
+            if (percent(chance, 12))
+                disturb(call, chance);
+            checked(call, chance);
+        }
+        first = false;
+        at += HEADER + length;
+    }
+}
+
+bool run_corpus(const char *path, struct chance *chance)
+{
+    static struct call call;
+    static uint8_t *octets;
+    static size_t room = 16 * 1024 * 1024;
+    FILE *file = fopen(path, "rb");
+    size_t count;
+
+    octets = octets ? octets : malloc(room);
+    if (!file || !octets) {
+        fprintf(stderr, "host: cannot read '%s'\n", path);
+        return false;
+    }
+    count = fread(octets, 1, room, file);
+    if (count == room || ferror(file)) {
+        fprintf(stderr, "host: cannot read '%s': over 16 MiB, or a read error\n", path);
+        return false;
+    }
+    fclose(file);
+    memset(&call, 0, sizeof call);
+    call.table_octets = PEER_TABLE_OCTETS;
+    call.table_kind = TABLE_CORPUS;
+    call.source = path;
+    play(octets, count, &call, chance);
+    return true;
+}

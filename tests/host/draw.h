@@ -1,0 +1,23 @@
+/* draw.h - things drawn by chance: addresses, settings, tables well formed and spoilt, frames, primitives, clock steps. */
+#ifndef DRAW_H
+#define DRAW_H
+
+#include "call.h"
+
+enum { POOL = 40 }; /* addresses that records and events are drawn from, so that they meet */
+
+uint64_t pool_address(unsigned number);
+uint64_t draw_address(struct chance *c, uint64_t own); /* mostly of the pool; own, group, zero and over 2^48 too */
+peer_settings draw_settings(struct chance *c, uint8_t role);
+void spoil_settings(struct chance *c, peer_settings *s);
+
+/* A well-formed table, crowded or not; then one with a single field spoilt. */
+void draw_table(struct chance *c, const peer_settings *s, uint8_t *octets);
+void spoil_table(struct chance *c, const peer_settings *s, uint8_t *octets);
+
+/* An event that may mean something to the table as it stands; the buffer is nearly always long enough. */
+void draw_event(struct chance *c, struct call *call);
+void draw_frame(struct chance *c, struct call *call, uint64_t peer);
+size_t draw_out(struct chance *c, enum call_kind kind);
+
+#endif

@@ -1,0 +1,61 @@
+/* forms.c - table, settings and answer from one form to the other, field by field and octet by octet. */
+#include "forms.h"
+
+enum { PHASES = 3, EXCHANGES = 10 };
+
+/* A record's octets: address 8, hold 4, left 2, state 1, exchange 1, little-endian. */
+static void octets_of_record(const struct pt_record *r, uint8_t *p)
+{
+    for (int i = 0; i < 8; i++)
+        p[i] = (uint8_t)(r->address >> (8 * i));
+    for (int i = 0; i < 4; i++)
+        p[8 + i] = (uint8_t)(r->hold >> (8 * i));
+    pt_put16(p + 12, (uint16_t)r->left);
+    p[14] = r->state;
+    p[15] = (uint8_t)(r->phase == PT_NONE ? 0 : (r->phase - 1) * PHASES + r->kind);
+}
+
+static void record_of(const uint8_t *p, struct pt_record *r)
+{
+    unsigned exchange = p[15];
+
+    r->address = pt_get32(p) | (uint64_t)pt_get32(p + 4) << 32;
+    r->hold = pt_get32(p + 8);
+    r->left = pt_get16(p + 12);
+    r->state = p[14];
+    r->phase = (uint8_t)(exchange == 0 ? PT_NONE : 1 + (exchange - 1) / PHASES);
+    r->kind = (uint8_t)(exchange == 0 ? PT_NO_KIND : 1 + (exchange - 1) % PHASES);
+}
+
+void octets_of(const struct pt_record *table, uint8_t *octets)
+{
+    for (int i = 0; i < PT_PLACES; i++)
+        octets_of_record(&table[i], octets + PEER_RECORD_OCTETS * i);
+}
+
+bool table_of(const uint8_t *octets, struct pt_record *table)
+{
+    bool held = true;
+
+    for (int i = 0; i < PT_PLACES; i++) {
+        held = held && octets[PEER_RECORD_OCTETS * i + 15] < EXCHANGES;
+        record_of(octets + PEER_RECORD_OCTETS * i, &table[i]);
+    }
+    return held;
+}
+
+struct pt_settings settings_of(peer_settings settings)
+{
+    return (struct pt_settings){
+        .own = settings.own, .role = settings.role, .rsna = settings.rsna,
+        .auth_timeout = settings.authentication_timeout, .assoc_timeout = settings.association_timeout,
+    };
+}
+
+bool same_answer(const peer_answer *library, const struct pt_answer *independent)
+{
+    return library->current == independent->current && library->code == independent->code &&
+           library->written == independent->written && library->refusal == independent->refusal &&
+           library->verdict == independent->verdict && library->notice == independent->notice &&
+           library->ds == independent->ds && library->state == independent->state;
+}

@@ -1,0 +1,18 @@
+/* forms.h - the library's forms (octets, peer_*) and the independent program's (structs, pt_*), and the ways between them. */
+#ifndef FORMS_H
+#define FORMS_H
+
+#include "peer_table.h"
+#include "rules.h"
+
+/* Writes the 512 octets of an independent table. Its exchanges must be numbers of the library's, 0 to 9. */
+void octets_of(const struct pt_record *table, uint8_t *octets);
+
+/* Reads 512 octets; false where a place has an exchange number that the independent form can't hold. */
+bool table_of(const uint8_t *octets, struct pt_record *table);
+
+struct pt_settings settings_of(peer_settings settings);
+
+bool same_answer(const peer_answer *library, const struct pt_answer *independent);
+
+#endif

@@ -1,0 +1,143 @@
+/* sweep.c - sweeps: every value of one thing, the rest drawn, both roles and all three calls. */
+#include "draw.h"
+#include "runs.h"
+
+#include <string.h>
+
+static struct call call;
+
+/* A fresh call of this kind over a table drawn for it, with an event that would do something. */
+static void fresh(struct chance *c, enum call_kind kind, uint8_t role, const char *source)
+{
+    memset(&call, 0, sizeof call);
+    call.settings = draw_settings(c, role);
+    call.table_octets = PEER_TABLE_OCTETS;
+    call.table_kind = TABLE_DRAWN;
+    call.source = source;
+    draw_table(c, &call.settings, call.table);
+    do
+        draw_event(c, &call);
+    while (call.kind != kind);
+    call.out_octets = PEER_PASS_OUT_LEAST;
+}
+
+static void made(struct chance *c, unsigned long index)
+{
+    call.index = index;
+    checked(&call, c);
+}
+
+/* Offset 14 is the state, 15 the exchange. In a free place too, which is then not free. */
+static void sweep_octet(struct chance *c, enum call_kind kind, uint8_t role)
+{
+    for (unsigned offset = 14; offset <= 15; offset++)
+        for (unsigned value = 0; value < 256; value++)
+            for (unsigned state = 0; state <= 4; state += offset == 15 ? 1 : 5) {
+                fresh(c, kind, role, offset == 14 ? "the sweep of states" : "the sweep of exchange numbers");
+                uint8_t *record = call.table + PEER_RECORD_OCTETS * below(c, PT_PLACES);
+                if (state > 0)
+                    record[14] = (uint8_t)state;
+                record[offset] = (uint8_t)value;
+                call.table_kind = TABLE_SPOILT;
+                made(c, value);
+            }
+}
+
+static void sweep_lengths(struct chance *c, enum call_kind kind, uint8_t role)
+{
+    static const size_t tables[] = { 0, 1, 16, 511, 512, 513, 1024 }, outs[] = { 0, 33, 34, 255, 256 };
+
+    for (size_t out = 0; out <= 260; out++)
+        if (out <= 40 || out >= 250) {
+            fresh(c, kind, role, "the sweep of buffer lengths");
+            call.out_octets = out;
+            made(c, out);
+        }
+    for (size_t i = 0; i < 35; i++) {
+        fresh(c, kind, role, "the sweep of table lengths");
+        call.table_octets = tables[i / 5];
+        call.table_kind = call.table_octets == PEER_TABLE_OCTETS ? TABLE_DRAWN : TABLE_OF_OTHER_LENGTH;
+        call.out_octets = outs[i % 5];
+        made(c, call.table_octets);
+    }
+}
+
+static void sweep_frames(struct chance *c, uint8_t role)
+{
+    for (size_t length = 0; length <= FRAME_MOST; length++)
+        for (unsigned again = 0; again < (length < 64 ? 16 : 1); again++) {
+            fresh(c, CALL_RECEIVE, role, "the sweep of frame lengths");
+            draw_octets(c, call.frame + 96, length > 96 ? length - 96 : 0);
+            call.frame_octets = length;
+            made(c, length);
+        }
+}
+
+static void sweep_numbers(struct chance *c, uint8_t role)
+{
+    static const uint16_t codes[] = { 0, 1, 2, 17, 255, 256, 32768, 65535 };
+
+    for (unsigned i = 0; i < 256 * 8; i++) {
+        fresh(c, CALL_ASK, role, "the sweep of primitives and codes");
+        call.primitive = (uint8_t)(i / 8);
+        call.number = codes[i % 8];
+        made(c, i);
+    }
+    for (unsigned i = 0; i < 600; i++) {
+        fresh(c, CALL_PASS, role, "the sweep of clock steps");
+        call.number = (uint16_t)(i < 300 ? i : 65535 - (i - 300) * 218);
+        made(c, call.number);
+    }
+}
+
+static void sweep_settings(struct chance *c, enum call_kind kind, uint8_t role)
+{
+    static const uint16_t timeouts[] = { 0, 1, 65535 };
+
+    for (unsigned i = 0; i < 256; i++) {
+        fresh(c, kind, role, "the sweep of settings");
+        if (i < 128)
+            call.settings.role = (uint8_t)(i < 8 ? i : i * 2);
+        else
+            call.settings.rsna = (uint8_t)(i < 136 ? i - 128 : (i - 128) * 2);
+        made(c, i);
+    }
+    for (unsigned i = 0; i < 9 + 60; i++) {
+        fresh(c, kind, role, "the sweep of timeouts and own addresses");
+        call.settings.authentication_timeout = timeouts[i % 3];
+        call.settings.association_timeout = timeouts[i / 3 % 3];
+        if (i >= 9)
+            spoil_settings(c, &call.settings);
+        made(c, i);
+    }
+}
+
+/* All 32 exchanges of a station run out in one step: the longest output there is. */
+static void sweep_timeouts(struct chance *c)
+{
+    for (unsigned most = 0; most <= PT_PLACES; most++) {
+        struct pt_record table[PT_PLACES] = { { 0 } };
+
+        fresh(c, CALL_PASS, PEER_STATION, "the sweep of timeouts at once");
+        for (unsigned i = 0; i < most; i++)
+            table[i] = (struct pt_record){ .address = pool_address(i), .left = 1 + i, .hold = i % 3, .state = (uint8_t)(1 + i % 2),
+                                           .phase = PT_SENT, .kind = PT_AUTHENTICATION };
+        octets_of(table, call.table);
+        call.number = PT_PLACES;
+        made(c, most);
+    }
+}
+
+void run_sweeps(struct chance *c)
+{
+    for (uint8_t role = PEER_AP; role <= PEER_STATION; role++) {
+        for (int kind = 0; kind < CALL_KINDS; kind++) {
+            sweep_octet(c, (enum call_kind)kind, role);
+            sweep_lengths(c, (enum call_kind)kind, role);
+            sweep_settings(c, (enum call_kind)kind, role);
+        }
+        sweep_frames(c, role);
+        sweep_numbers(c, role);
+    }
+    sweep_timeouts(c);
+}

@@ -1,0 +1,80 @@
+/* tally.c - counts by call, table, refusal, verdict, notice, word to the distribution system, state and timeouts. */
+#include "tally.h"
+
+#include <stdio.h>
+
+enum { MOST = 33 };
+
+enum field { CALLS, TABLES, REFUSALS, VERDICTS, NOTICES, DS_WORDS, STATES, TIMEOUTS, FIELDS };
+
+/* What each field is called and how many values it has, all of which must be seen; refusals also for each call, below. */
+static const struct {
+    const char *name;
+    unsigned values;
+} fields[FIELDS] = {
+    [CALLS] = { "call (receive, ask, pass)", CALL_KINDS },
+    [TABLES] = { "table (corpus, walk, drawn, spoilt, random, of other length)", TABLE_KINDS },
+    [REFUSALS] = { "refusal", 10 },
+    [VERDICTS] = { "verdict", 3 },
+    [NOTICES] = { "notice", 11 },
+    [DS_WORDS] = { "distribution system", 3 },
+    [STATES] = { "state", 5 },
+    [TIMEOUTS] = { "timeouts of a clock step", 33 },
+};
+
+/* The refusals that each call can give, as bits. */
+static const unsigned possible[CALL_KINDS] = { [CALL_RECEIVE] = 0x01F, [CALL_ASK] = 0x3EF, [CALL_PASS] = 0x00F };
+
+static unsigned long counts[FIELDS][MOST], refusals[CALL_KINDS][10], total;
+
+unsigned long tally_calls(void)
+{
+    return total;
+}
+
+void tally_add(const struct call *call, const struct pt_answer *answer)
+{
+    total++;
+    counts[CALLS][call->kind]++;
+    counts[TABLES][call->table_kind]++;
+    counts[REFUSALS][answer->refusal]++;
+    counts[VERDICTS][answer->verdict]++;
+    counts[NOTICES][answer->notice]++;
+    counts[DS_WORDS][answer->ds]++;
+    counts[STATES][answer->state]++;
+    refusals[call->kind][answer->refusal]++;
+    if (call->kind == CALL_PASS && answer->refusal == PT_DONE)
+        counts[TIMEOUTS][answer->written / PEER_TIMEOUT_OCTETS]++;
+}
+
+static bool print_field(enum field field)
+{
+    bool all = true;
+
+    printf("  %s:", fields[field].name);
+    for (unsigned i = 0; i < fields[field].values; i++) {
+        if (counts[field][i] > 0 || field != TIMEOUTS)
+            printf(" %u %lu", i, counts[field][i]);
+        all = all && (counts[field][i] > 0 || (field == TIMEOUTS && i > 2 && i < 32));
+    }
+    printf("\n");
+    if (!all)
+        printf("host: some %s was never seen\n", fields[field].name);
+    return all;
+}
+
+bool tally_print(void)
+{
+    bool all = true;
+
+    printf("%lu calls, each value with how often it was seen\n", total);
+    for (int i = 0; i < FIELDS; i++)
+        all = print_field((enum field)i) && all;
+    for (int kind = 0; kind < CALL_KINDS; kind++)
+        for (unsigned i = 0; i < 10; i++)
+            if (possible[kind] >> i & 1 && refusals[kind][i] == 0) {
+                printf("host: refusal %u was never seen from call %d (receive, ask, pass)\n", i, kind);
+                all = false;
+            }
+    return all;
+}

@@ -1,0 +1,115 @@
+/* walk.c - long walks: half the calls are what brings the peer on from where it stands, so that every state and exchange is reached. */
+#include "draw.h"
+#include "runs.h"
+
+#include <string.h>
+
+enum { DATA = 2, MANAGEMENT = 0 };
+
+static void next_frame(struct chance *c, struct call *call, unsigned type, unsigned subtype, size_t length)
+{
+    uint64_t own = call->settings.own;
+
+    call->kind = CALL_RECEIVE;
+    draw_octets(c, call->frame, length);
+    call->frame[0] = (uint8_t)(type << 2 | subtype << 4);
+    pt_put48(call->frame + 4, own);
+    pt_put48(call->frame + 10, call->address);
+    pt_put16(call->frame + 24, 0);
+    pt_put16(call->frame + 26, subtype == PT_AUTH ? call->settings.role : 0); /* an AP is asked by transaction 1, a station answered by 2 */
+    pt_put16(call->frame + 28, subtype == PT_AUTH ? 0 : 0xC001);
+    call->frame_octets = length;
+}
+
+static void next_primitive(struct call *call, uint8_t primitive, uint16_t code)
+{
+    call->kind = CALL_ASK;
+    call->primitive = primitive;
+    call->number = code;
+}
+
+static void on_at_ap(struct chance *c, struct call *call, const struct pt_record *r)
+{
+    static const uint8_t answers[] = { 0, PEER_AUTHENTICATE_RESPONSE, PEER_ASSOCIATE_RESPONSE, PEER_REASSOCIATE_RESPONSE };
+    bool again = percent(c, 40);
+
+    if (r->phase == PT_AWAITING)
+        next_primitive(call, PEER_TRANSMIT_REPORT, PEER_ACKNOWLEDGED);
+    else if (r->phase == PT_ASKED)
+        next_primitive(call, answers[r->kind], PEER_STATUS_SUCCESS);
+    else if (r->state < 2)
+        next_frame(c, call, MANAGEMENT, PT_AUTH, 30);
+    else if (r->state == 2 || again)
+        next_frame(c, call, MANAGEMENT, again ? PT_REASSOC_REQUEST : PT_ASSOC_REQUEST, 40);
+    else if (r->state == 3)
+        next_primitive(call, PEER_SET_PROTECTION, 0);
+    else
+        next_frame(c, call, DATA, below(c, 13), 40);
+}
+
+static void on_at_station(struct chance *c, struct call *call, const struct pt_record *r)
+{
+    static const uint8_t answers[] = { 0, PT_AUTH, PT_ASSOC_RESPONSE, PT_REASSOC_RESPONSE };
+
+    if (r->phase == PT_SENT && percent(c, 85))
+        next_frame(c, call, MANAGEMENT, answers[r->kind], 30);
+    else if (r->state < 2)
+        next_primitive(call, PEER_AUTHENTICATE_REQUEST, 0);
+    else if (r->state == 2 || percent(c, 30))
+        next_primitive(call, percent(c, 50) ? PEER_ASSOCIATE_REQUEST : PEER_REASSOCIATE_REQUEST, 0);
+    else if (r->state == 3)
+        next_primitive(call, PEER_SET_PROTECTION, 0);
+    else
+        next_frame(c, call, DATA, below(c, 13), 40);
+}
+
+/* The peer's record as it stands, or zeros. */
+static struct pt_record record_of(const struct call *call)
+{
+    struct pt_record table[PT_PLACES], none = { 0 };
+
+    table_of(call->table, table);
+    for (int i = 0; i < PT_PLACES; i++)
+        if (table[i].address == call->address)
+            return table[i];
+    return none;
+}
+
+static void step(struct chance *c, struct call *call, unsigned peers)
+{
+    struct pt_record r;
+
+    if (percent(c, 30)) {
+        draw_event(c, call);
+        if (call->kind == CALL_PASS && percent(c, 80))
+            call->number = (uint16_t)(1 + below(c, 60));
+        return;
+    }
+    call->address = pool_address(below(c, peers));
+    r = record_of(call);
+    if (call->settings.role == PEER_AP)
+        on_at_ap(c, call, &r);
+    else
+        on_at_station(c, call, &r);
+    call->out_octets = draw_out(c, call->kind);
+}
+
+/* Now and then a well-formed table as it might come back from storage, else an empty one. */
+void run_walk(unsigned long number, unsigned long calls, struct chance *c)
+{
+    static struct call call;
+    unsigned peers = 1 + below(c, POOL);
+
+    memset(&call, 0, sizeof call);
+    call.settings = draw_settings(c, number % 2 ? PEER_AP : PEER_STATION);
+    call.table_octets = PEER_TABLE_OCTETS;
+    call.table_kind = TABLE_WALK;
+    call.source = "the walks";
+    if (percent(c, 25))
+        draw_table(c, &call.settings, call.table);
+    for (unsigned long i = 0; i < calls; i++) {
+        call.index = number * calls + i + 1;
+        step(c, &call, peers);
+        checked(&call, c);
+    }
+}

@@ -1,0 +1,108 @@
+/* play.c - the three loops that are measured: the same events over the library, the independent functions, and nothing. */
+#include "play.h"
+
+#include <stdio.h>
+#include <string.h>
+
+enum { OUT = 256 };
+
+static uint8_t octets[PEER_TABLE_OCTETS], first_octets[PEER_TABLE_OCTETS];
+static struct pt_record table[PT_PLACES], first_table[PT_PLACES];
+static uint8_t out[OUT], other_out[OUT];
+
+static peer_answer by_library(peer_settings s, const struct event *e)
+{
+    if (e->kind == EVENT_FRAME)
+        return peer_receive(octets, sizeof octets, s, e->frame, e->length, out, sizeof out);
+    if (e->kind == EVENT_PRIMITIVE)
+        return peer_ask(octets, sizeof octets, s, e->primitive, e->address, e->number, out, sizeof out);
+    return peer_pass(octets, sizeof octets, s, e->number, out, sizeof out);
+}
+
+static struct pt_answer by_independent(const struct pt_settings *s, const struct event *e, uint8_t *to)
+{
+    if (e->kind == EVENT_FRAME)
+        return pt_receive(s, table, e->frame, e->length, to, OUT);
+    if (e->kind == EVENT_PRIMITIVE)
+        return pt_ask(s, table, e->primitive, e->address, e->number, to, OUT);
+    return pt_clock(s, table, e->number, to, OUT);
+}
+
+static bool one_compared(const struct stream *stream, const struct event *e)
+{
+    struct pt_settings s = settings_of(stream->settings);
+    uint8_t wanted[PEER_TABLE_OCTETS];
+    peer_answer a = by_library(stream->settings, e);
+    struct pt_answer b = by_independent(&s, e, other_out);
+
+    octets_of(table, wanted);
+    return same_answer(&a, &b) && memcmp(octets, wanted, sizeof octets) == 0 && memcmp(out, other_out, OUT) == 0;
+}
+
+bool play_compared(const char *name, const struct stream *stream)
+{
+    memset(octets, 0, sizeof octets);
+    memset(table, 0, sizeof table);
+    for (size_t i = 0; i < stream->setup + stream->count; i++) {
+        if (i == stream->setup) {
+            memcpy(first_octets, octets, sizeof octets);
+            memcpy(first_table, table, sizeof table);
+        }
+        if (!one_compared(stream, &stream->events[i])) {
+            printf("speed: stream %s, event %zu: library and independent program differ: tests/host/run shows more\n", name, i + 1);
+            return false;
+        }
+    }
+    return true;
+}
+
+/* An answer must be there, though nobody looks at it. */
+#define KEPT(answer) __asm__ volatile("" : : "r"(&(answer)) : "memory")
+
+static __attribute__((noinline)) void round_of_library(const struct stream *stream)
+{
+    for (size_t i = 0; i < stream->count; i++) {
+        peer_answer a = by_library(stream->settings, &stream->events[stream->setup + i]);
+        KEPT(a);
+    }
+}
+
+static __attribute__((noinline)) void round_of_independent(const struct stream *stream, const struct pt_settings *s)
+{
+    for (size_t i = 0; i < stream->count; i++) {
+        struct pt_answer a = by_independent(s, &stream->events[stream->setup + i], out);
+        KEPT(a);
+    }
+}
+
+/* The loop alone: it looks at the kind, as the others do. */
+static __attribute__((noinline)) void round_of_nothing(const struct stream *stream)
+{
+    for (size_t i = 0; i < stream->count; i++) {
+        const struct event *e = &stream->events[stream->setup + i];
+
+        if (e->kind == EVENT_FRAME)
+            KEPT(e->frame);
+        else if (e->kind == EVENT_PRIMITIVE)
+            KEPT(e->address);
+        else
+            KEPT(e->number);
+    }
+}
+
+/* Each round brings both tables back, whoever plays, so that this cost is the same for all three. */
+void play(enum player player, const struct stream *stream, unsigned rounds)
+{
+    struct pt_settings s = settings_of(stream->settings);
+
+    for (unsigned round = 0; round < rounds; round++) {
+        memcpy(octets, first_octets, sizeof octets);
+        memcpy(table, first_table, sizeof table);
+        if (player == PLAY_LIBRARY)
+            round_of_library(stream);
+        else if (player == PLAY_INDEPENDENT)
+            round_of_independent(stream, &s);
+        else
+            round_of_nothing(stream);
+    }
+}

@@ -1,0 +1,82 @@
+/* count.c - a plugin of qemu-user (7.2 and later, plugin interface 1): counts the instructions that a program executes, exact and
+   repeatable, whatever else the machine does. Prints 'instructions N' at the end; with the argument 'by=function' a line for each
+   function too. The interface is declared here, since Debian's qemu-user comes without its header. */
+#define _POSIX_C_SOURCE 200809L
+#include <inttypes.h>
+#include <stddef.h>
+#include <stdio.h>
+#include <stdlib.h>
+#include <string.h>
+
+typedef uint64_t qemu_plugin_id_t;
+struct qemu_plugin_tb;
+struct qemu_plugin_insn;
+typedef struct { const char *target_name; struct { int min, cur; } version; _Bool system_emulation; } qemu_info_t;
+enum qemu_plugin_op { QEMU_PLUGIN_INLINE_ADD_U64 };
+void qemu_plugin_register_vcpu_tb_trans_cb(qemu_plugin_id_t, void (*)(qemu_plugin_id_t, struct qemu_plugin_tb *));
+void qemu_plugin_register_vcpu_tb_exec_inline(struct qemu_plugin_tb *, enum qemu_plugin_op, void *, uint64_t);
+void qemu_plugin_register_atexit_cb(qemu_plugin_id_t, void (*)(qemu_plugin_id_t, void *), void *);
+size_t qemu_plugin_tb_n_insns(const struct qemu_plugin_tb *);
+struct qemu_plugin_insn *qemu_plugin_tb_get_insn(const struct qemu_plugin_tb *, size_t);
+const char *qemu_plugin_insn_symbol(const struct qemu_plugin_insn *);
+
+#define SHOWN __attribute__((visibility("default")))
+SHOWN int qemu_plugin_version = 1;
+
+enum { FUNCTIONS = 4096 };
+struct function { char *name; uint64_t instructions; };
+static struct function functions[FUNCTIONS];
+static size_t function_count;
+static uint64_t instructions;
+static _Bool by_function;
+
+/* The counter of the function that a block starts in; the last one takes all that find no room. */
+static struct function *function_of(const struct qemu_plugin_tb *block)
+{
+    const char *name = qemu_plugin_insn_symbol(qemu_plugin_tb_get_insn(block, 0));
+    size_t i = 0;
+
+    name = name ? name : "?";
+    while (i < function_count && strcmp(functions[i].name, name) != 0)
+        i++;
+    if (i == function_count && function_count < FUNCTIONS - 1)
+        functions[function_count++].name = strdup(name);
+    return &functions[i];
+}
+
+static void translated(qemu_plugin_id_t id, struct qemu_plugin_tb *block)
+{
+    size_t length = qemu_plugin_tb_n_insns(block);
+
+    (void)id;
+    qemu_plugin_register_vcpu_tb_exec_inline(block, QEMU_PLUGIN_INLINE_ADD_U64, &instructions, length);
+    if (by_function)
+        qemu_plugin_register_vcpu_tb_exec_inline(block, QEMU_PLUGIN_INLINE_ADD_U64, &function_of(block)->instructions, length);
+}
+
+static int more_first(const void *a, const void *b)
+{
+    uint64_t left = ((const struct function *)a)->instructions, right = ((const struct function *)b)->instructions;
+
+    return (left < right) - (left > right);
+}
+
+static void ended(qemu_plugin_id_t id, void *nothing)
+{
+    (void)id;
+    (void)nothing;
+    fprintf(stderr, "instructions %" PRIu64 "\n", instructions);
+    qsort(functions, function_count, sizeof *functions, more_first);
+    for (size_t i = 0; i < function_count; i++)
+        fprintf(stderr, "function %s %" PRIu64 "\n", functions[i].name, functions[i].instructions);
+}
+
+SHOWN int qemu_plugin_install(qemu_plugin_id_t id, const qemu_info_t *info, int argc, char **argv)
+{
+    (void)info;
+    for (int i = 0; i < argc; i++)
+        by_function = by_function || strcmp(argv[i], "by=function") == 0;
+    qemu_plugin_register_vcpu_tb_trans_cb(id, translated);
+    qemu_plugin_register_atexit_cb(id, ended, NULL);
+    return 0;
+}

@@ -1,0 +1,120 @@
+"""Scenarios at fault, each with the line at fault and what the tool has to say of it."""
+
+START = ["ap own=02:00:00:00:00:01", "name p = 02:00:00:00:00:0a", "name s-1..3 = 02:00:00:00:01:01"]
+
+# The faulty line is the fourth one, behind START.
+LINES = [
+    ("fram data from=p", "'fram' is no word to begin a line: did you mean 'frame'?"),
+    ("\x1b[2J", "'?[2J' is no word to begin a line: "
+     "one of name, ap, station, settings, frame, prim, clock"),
+    ("reboot", "'reboot' is no word to begin a line: "
+     "one of name, ap, station, settings, frame, prim, clock"),
+    ("ap own=02:00:00:00:00:01", "a second 'ap': the settings come once, at the start"),
+    ("frame", "frame needs a word for its kind, as auth-request, or raw and octets"),
+    ("frame auth-requst from=p", "'auth-requst' is no frame: did you mean 'auth-request'?"),
+    ("frame auth-request", "auth-request needs from=ADDRESS"),
+    ("frame reassoc-request from=p", "reassoc-request needs current-ap=ADDRESS"),
+    ("frame auth-request from", "'from' is no field: name=value, without blanks around '='"),
+    ("frame auth-request from= p", "from has no value: from=.. without blanks around '='"),
+    ("frame auth-request from=p from=p", "from is given twice: once is enough"),
+    ("frame auth-request from=p statsu=1",
+     "'statsu' is no field of auth-request: did you mean 'status'?"),
+    ("frame ack from=p", "'from' is no field of ack: one of "
+     "to, body, version, flags, to-ds, from-ds, duration, length"),
+    ("frame data from=p reason=3", "'reason' is no field of data: one of "
+     "from, to, body, version, flags, to-ds, from-ds, duration, length, third, sequence"),
+    ("frame deauth from=p reason=65536", "reason: 65536 does not fit: 0 to 65535"),
+    ("frame deauth from=p reason=-1",
+     "reason: '-1' is no number: decimal as 17, or hexadecimal as 0x11"),
+    ("frame deauth from=p reason=three",
+     "reason: 'three' is no number: decimal as 17, or hexadecimal as 0x11"),
+    ("frame assoc-response from=p aid=16384", "aid: 16384 does not fit: 0 to 16383"),
+    ("frame assoc-response from=p aid=1 aid-field=1",
+     "aid and aid-field are one field: give one of them"),
+    ("frame assoc-response from=p comeback=4294967296",
+     "comeback: 4294967296 does not fit: 0 to 4294967295"),
+    ("frame assoc-response from=p elements=380", "elements: '380' is not octets: "
+     "two hexadecimal digits each, as 38 05, or 00*9 for nine of them"),
+    ("frame data from=p version=4", "version: 4 does not fit: 0 to 3"),
+    ("frame data from=p to-ds=2", "to-ds: 2 does not fit: 0 to 1"),
+    ("frame data from=p flags=1",
+     "flags: the two lowest bits are to-ds and from-ds: give those by name"),
+    ("frame data from=p flags=0x100", "flags: 0x100 does not fit: 0 to 252"),
+    ("frame data from=p length=4097", "length: 4097 does not fit: 0 to 4096"),
+    ("frame data from=p body=00*4096",
+     "the frame has 4120 octets: at most 4096 can be given"),
+    ("frame data from=q",
+     "from: no address has the name 'q': 'name q = ..' gives one"),
+    ("frame data from=broadcas",
+     "from: no address has the name 'broadcas': did you mean 'broadcast'?"),
+    ("frame data from=02:00:00:00:00", "from: '02:00:00:00:00' is neither an address, "
+     "as 02:00:00:00:00:0a, nor a name, as scanner, nor a range of names, as scanner-1..30"),
+    ("frame data from=s-1..4", "from: no address has the name 's-4': did you mean 's-3'?"),
+    ("frame data from=s-3..1", "from: 's-3..1' is no range: "
+     "the second number is the last one, at most 256 in all"),
+    ("frame data from=s-1..2 to=s-2..3", "from and to are both ranges: one range in a line"),
+    ("frame raw 0g", "raw: '0g' is not octets: two hexadecimal digits each, as 38 05, "
+     "or 00*9 for nine of them"),
+    ("frame raw 00*4097", "raw, times: 4097 does not fit: 0 to 4096"),
+    ("frame raw 00*4000 11*97", "raw: more than the 4096 octets that a frame can have"),
+    ("prim 2", "a prim line is: prim NUMBER|WORD ADDRESS, and the code by its name"),
+    ("prim 256 p", "primitive: 256 does not fit: 0 to 255"),
+    ("prim respond-asociate p", "'respond-asociate' is no primitive: did you mean 'respond-associate'?"),
+    ("prim 2 p reason=0", "the code of primitive respond-authenticate is not called reason: status=.."),
+    ("prim disassociate p status=0",
+     "the code of primitive disassociate is not called status: reason=.."),
+    ("prim report p status=1", "the code of primitive report is not called status: acknowledged=.."),
+    ("prim 4 p status=0", "the code of primitive associate is not called status: code=.."),
+    ("prim 11 p status=0", "the code of primitive 11 is not called status: code=.."),
+    ("prim 2 p status=0 code=0", "status and code are one field: give one of them"),
+    ("prim 2 p status=70000", "status: 70000 does not fit: 0 to 65535"),
+    ("prim 2 p colour=1", "'colour' is no field of primitive respond-authenticate: one of status, code"),
+    ("prim 2 p 0", "'0' is no field: name=value, without blanks around '='"),
+    ("clock", "a clock line is: clock TU, as clock 100"),
+    ("clock 1 2", "a clock line is: clock TU, as clock 100"),
+    ("clock 65536", "clock: 65536 does not fit: 0 to 65535"),
+    ("clock " + "9" * 5000, "clock: a number of 5000 digits does not fit: 0 to 65535"),
+    ("clock 1.5", "clock: '1.5' is no number: decimal as 17, or hexadecimal as 0x11"),
+    ("name q", "a name line is: name NAME = ADDRESS"),
+    ("name q = 02:00:00:00:00:0g",
+     "'02:00:00:00:00:0g' is no address: six octets, as 02:00:00:00:00:0a"),
+    ("name p = 02:00:00:00:00:0b",
+     "'p' is the name of 02:00:00:00:00:0a already: choose another name"),
+    ("name q = 02:00:00:00:00:0a",
+     "02:00:00:00:00:0a has the name 'p' already: one name for each address"),
+    ("name own = 02:00:00:00:00:0b", "'own' has its meaning already: choose another name"),
+    ("name 1q = 02:00:00:00:00:0b", "name: '1q' is neither an address, as 02:00:00:00:00:0a, "
+     "nor a name, as scanner, nor a range of names, as scanner-1..30"),
+    ("name t-1..2 = ff:ff:ff:ff:ff:ff",
+     "ff:ff:ff:ff:ff:ff has the name 'broadcast' already: one name for each address"),
+    ("name t-1..300 = 02:00:00:00:03:00", "name: 't-1..300' is no range: "
+     "the second number is the last one, at most 256 in all"),
+]
+
+# Whole scenarios, with the number of the line at fault.
+WHOLE = [
+    ("", 1, "no settings: the first line is ap, station or settings"),
+    ("# a comment\n\n", 1, "no settings: the first line is ap, station or settings"),
+    ("clock 1\n", 1, "'clock' comes before the settings: the first line is ap, station or settings"),
+    ("frame data from=own\n", 1,
+     "'frame' comes before the settings: the first line is ap, station or settings"),
+    ("ap\n", 1, "ap needs own=ADDRESS, our own address"),
+    ("station rsna=1\n", 1, "station needs own=ADDRESS, our own address"),
+    ("ap own=02:00:00:00:00:01 role=1\n", 1,
+     "'role' is no field of ap: one of own, rsna, timeouts"),
+    ("settings own=02:00:00:00:00:01\n", 1, "settings needs role=N: 1 is an AP, 2 a station"),
+    ("ap own=02:00:00:00:00:01 rsna=256\n", 1, "rsna: 256 does not fit: 0 to 255"),
+    ("ap own=02:00:00:00:00:01 timeouts=100\n", 1,
+     "timeouts are two numbers, authentication and association: timeouts=100,100"),
+    ("ap own=02:00:00:00:00:01 timeouts=100,65536\n", 1, "timeouts: 65536 does not fit: 0 to 65535"),
+    ("name a-1..2 = 02:00:00:00:00:01\nap own=a-1..2\n", 2,
+     "own: 'a-1..2' is 2 addresses: one is wanted here"),
+    ("name a-1..2 = fe:ff:ff:ff:ff:ff\nname b-1..9 = ff:ff:ff:ff:ff:fe\n", 2,
+     "ff:ff:ff:ff:ff:ff has the name 'broadcast' already: one name for each address"),
+]
+
+
+def all_wrong():
+    """Every faulty scenario: its text, the line at fault, and what is said of it."""
+    at = len(START) + 1
+    return [("\n".join(START + [line]) + "\n", at, said) for line, said in LINES] + WHOLE

@@ -1,0 +1,179 @@
+"""Message charts: who says what to whom, drawn from a scene's steps and answers."""
+
+import collections
+
+from labels import TEXT_AT, mark
+from scenes import ACK, COMEBACK_0, COMEBACK_5, JOIN, NO_COMEBACK, PARTS
+from states import FILLS
+from svg import AMBER, BLUE, GREEN, INK, MUTED, PAPER, RED, SIZE, Canvas, width_of
+from words import REFUSALS, frame_words, notice_words, primitive_words
+
+ROW, LINE = 34, 16
+TOP = 92
+# The lifelines of each side's own side, table and peer.
+Lines = collections.namedtuple("Lines", "own table peer")
+
+
+def parted(words, room):
+    """Words in as many lines as they need, parted at commas."""
+    lines = [""]
+    for part in words.split(", "):
+        longer = f"{lines[-1]}, {part}" if lines[-1] else part
+        if lines[-1] and width_of(longer) > room:
+            lines[-1] += ","
+            longer = part
+            lines.append("")
+        lines[-1] = longer
+    return lines
+
+
+class Chart:
+    """Lifelines with names, and a place `y` down to which they are filled. `show_hold` says that
+    the badges name the hold too."""
+
+    def __init__(self, canvas, lifelines, show_hold=False, top=TOP):
+        self.canvas, self.lifelines, self.show_hold = canvas, lifelines, show_hold
+        self.y = self.top = top + 46
+
+    def names(self, ends):
+        """The lifelines, down to `ends`, each with its name in a box."""
+        for x, name in self.lifelines.items():
+            self.canvas.line([(x, self.top - 16), (x, ends)], "#afb8c1", dashed=True,
+                             head=False, thin=True, under=True)
+            wide = width_of(name, 12.5, True) + 22
+            self.canvas.rectangle(x - wide / 2, self.top - 46, wide, 30, "#eff2f5", "#8c959f")
+            self.canvas.text(x, self.top - 26.5, name, anchor="middle", bold=True, over=True)
+
+    def message(self, start, end, words, kind=None, stroke=INK, dashed=False):
+        """An arrow with its words above it."""
+        indent = TEXT_AT if kind else 0
+        lines = parted(words, abs(end - start) - 16 - indent)
+        self.y += ROW + LINE * (len(lines) - 1)
+        wide = max(width_of(line) for line in lines) + indent
+        left = (start + end) / 2 - wide / 2
+        for at, line in enumerate(reversed(lines)):
+            self.canvas.text(left + indent, self.y - 7 - LINE * at, line,
+                             fill=stroke if stroke == RED else INK)
+        if kind:
+            mark(self.canvas, kind, left + 9, self.y - 11 - LINE * (len(lines) - 1))
+        self.canvas.line([(start, self.y), (end, self.y)], stroke, dashed)
+
+    def badge(self, x, words, fill, kind=None):
+        """Words on a lifeline."""
+        self.y += 9
+        wide = width_of(words, 11.5, True) + 18 + (18 if kind else 0)
+        self.canvas.rectangle(x - wide / 2, self.y, wide, 22, fill, "#8c959f", 11)
+        if kind:
+            mark(self.canvas, kind, x - wide / 2 + 14, self.y + 11)
+        self.canvas.text(x + (9 if kind else 0), self.y + 15.2, words, 11.5, "middle", True,
+                         over=True)
+        self.y += 18
+
+    def state_badge(self, x, state, hold):
+        words = f"State {state}" + (f", hold {hold} TU" if self.show_hold else "")
+        self.badge(x, words, FILLS[state])
+
+
+def event_message(chart, lines, step, heard):
+    """What comes to the table."""
+    kind, (_, verdict, notice, *_) = step.event[0], step.answer.split()
+    if kind == "ask":
+        chart.message(lines.own, lines.table, primitive_words(*step.event[1:]),
+                      f"primitive-{step.event[1]}", AMBER)
+    elif kind == "clock":
+        chart.y += 10
+        chart.badge(lines.table, f"{step.event[1]} TU pass", PAPER, "clock")
+    elif step.event[1] not in heard:
+        admitted = ", admitted" if (verdict, notice) == ("A", "0") and step.event[1] != ACK else ""
+        chart.message(lines.peer, lines.table, frame_words(step.event[1]) + admitted, None, BLUE,
+                      step.event[1] == ACK)
+
+
+def answer_messages(chart, lines, step):
+    """What the table says of it: a refusal, a frame, a notice, a word to the DS."""
+    refusal, _, notice, code, _, ds, _ = step.answer.split()
+    if refusal != "0":
+        chart.message(lines.table, lines.own, REFUSALS[int(refusal)], None, RED)
+    if step.sent:
+        chart.message(lines.table, lines.peer, frame_words(step.sent), None, BLUE)
+    if notice != "0":
+        chart.message(lines.table, lines.own, notice_words(int(notice), code), None, MUTED)
+    if ds != "-":
+        chart.message(lines.table, lines.own, "to the distribution system: joined" if ds == "J"
+                      else "to the distribution system: left", None, GREEN)
+
+
+def part(chart, name):
+    """A part of the chart begins: a line across, and its name at the left edge."""
+    if chart.y > chart.top:
+        chart.y += 16
+        chart.canvas.line([(22, chart.y), (chart.canvas.width - 22, chart.y)], "#d8dee4",
+                          head=False, thin=True, under=True)
+    chart.canvas.text(22, chart.y + 28, name, 11.5, bold=True, fill=MUTED)
+
+
+def play(chart, sides, steps, rows, parts=()):
+    """Draws the steps. `rows` has each side's state and hold so far; a frame that the other side
+    has sent is drawn once."""
+    heard = set()
+    for number, step in enumerate(steps):
+        if number in parts:
+            part(chart, parts[number])
+        lines, now = sides[step.side], rows[step.side]
+        event_message(chart, lines, step, heard)
+        state = int(step.answer.split()[6]) or now[0]
+        rejected = step.event[0] == "hear" and chart.show_hold
+        if (state, step.hold) != now or rejected:
+            chart.state_badge(lines.table, state, step.hold)
+        rows[step.side] = (state, step.hold)
+        answer_messages(chart, lines, step)
+        heard.add(step.sent)
+
+
+def titled(width, title, about):
+    canvas = Canvas(width, 0, title, about)
+    canvas.text(34, 42, title, 20, bold=True)
+    canvas.text(34, 65, about, fill=MUTED)
+    return canvas
+
+
+def join():
+    canvas = titled(1100, "A join", "A station and an access point that does not require RSNA, "
+                    "each with its own table: what one writes the other hears, octet for octet.")
+    own_s, table_s, table_a, own_a = 176, 428, 730, 1006
+    chart = Chart(canvas, {own_s: "Station's own side", table_s: "Station's table",
+                           table_a: "Access point's table", own_a: "AP's own side"})
+    sides = {"station": Lines(own_s, table_s, table_a), "ap": Lines(own_a, table_a, table_s)}
+    play(chart, sides, JOIN, {"station": (0, 0), "ap": (0, 0)}, PARTS)
+    chart.names(chart.y + 24)
+    canvas.height = chart.y + 48
+    return canvas
+
+
+def remark(canvas, y):
+    """What a rejection without the element does, by the scene that is played for it."""
+    canvas.rectangle(34, y, 500, 92, "#f6f8fa", "#d8dee4", 8)
+    hold = NO_COMEBACK[-1].hold
+    lines = (f"Without a comeback the hold is {hold:,} TU, a little over 2 s, for any status.",
+             "A comeback of 0 is a time like any other. The module before this one",
+             "took it for no time given, and held without end.")
+    for at, words in enumerate(lines):
+        canvas.text(52, y + 27 + 22 * at, words)
+
+
+def comeback():
+    canvas = titled(1100, "Rejected, and asked to come back", "A station in State 2, authenticated "
+                    "with an access point, asks to associate. The comeback is how long it "
+                    "must wait.")
+    for left, title, steps in ((0, "Comeback 0: it may ask again at once", COMEBACK_0),
+                               (550, "Comeback 5 TU: refused until they have passed", COMEBACK_5)):
+        canvas.text(left + 34, 104, title, 14.5, bold=True)
+        own, table, peer = left + 72, left + 288, left + 508
+        chart = Chart(canvas, {own: "Own side", table: "Station's table", peer: "AP"}, True, 124)
+        play(chart, {"station": Lines(own, table, peer)}, steps, {"station": (2, 0)})
+        chart.names(chart.y + 24)
+        canvas.height = max(canvas.height, chart.y + 48)
+        if left == 0:
+            remark(canvas, chart.y + 62)
+    canvas.line([(562, 92), (562, canvas.height - 24)], "#d8dee4", head=False, thin=True)
+    return canvas

@@ -1,0 +1,45 @@
+"""Makes the pictures of docs/pictures; with --check it names those that are otherwise."""
+
+import sys
+
+import charts
+import move_list
+import states
+
+FOLDER = move_list.LIST.parent
+
+
+def pictures():
+    """The text of each picture by its file's name; a fault where words would overlap."""
+    lines, passes = move_list.read()
+    canvases = {"states_ap": states.picture(1, lines, passes),
+                "states_station": states.picture(2, lines, passes),
+                "join": charts.join(), "comeback": charts.comeback()}
+    for name, canvas in canvases.items():
+        if canvas.faults():
+            raise move_list.Fault(f"{name}: " + "; ".join(canvas.faults()))
+    return {f"{name}.svg": canvas.svg() for name, canvas in canvases.items()}
+
+
+def stale():
+    """Each picture that is missing, other than it would be made, or made by nothing."""
+    made = pictures()
+    there = {path.name: path.read_text() for path in FOLDER.glob("*.svg")}
+    return sorted(name for name in made.keys() | there.keys() if made.get(name) != there.get(name))
+
+
+def main():
+    if sys.argv[1:] not in ([], ["--check"]):
+        sys.exit("pictures: the only argument is --check")
+    if sys.argv[1:]:
+        sys.exit("\n".join(f"pictures: {name} is not as tools/pictures/make.py makes it"
+                           for name in stale()) or 0)
+    for name, text in pictures().items():
+        (FOLDER / name).write_text(text)
+
+
+if __name__ == "__main__":
+    try:
+        main()
+    except move_list.Fault as fault:
+        sys.exit(f"pictures: {fault}")

@@ -1,0 +1,57 @@
+"""Reads docs/pictures/moves.txt: the moves of a state, and the classes that pass in each state."""
+
+import collections
+import pathlib
+
+ROOT = pathlib.Path(__file__).resolve().parent.parent.parent
+LIST = ROOT / "docs" / "pictures" / "moves.txt"
+
+ROLES = {"ap": 1, "station": 2}
+RSNA = {"0": (0,), "1": (1,), "any": (0, 1)}
+STATES = {"none": 0, "1": 1, "2": 2, "3": 3, "4": 4}
+COLUMNS = 8
+
+# One line of the list; `rsna` and `hold` are tuples, states are numbers and 0 is no record.
+Listed = collections.namedtuple("Listed", "role rsna before after ds hold by cause")
+
+
+class Fault(Exception):
+    """A fault of the list, or of a picture drawn from it: one line that says what and where."""
+
+
+def one_of(number, what, word, choices):
+    if word not in choices:
+        raise Fault(f"{LIST.name}, line {number}: {what} is '{word}', "
+                    f"not one of {', '.join(choices)}")
+    return choices[word] if isinstance(choices, dict) else word
+
+
+def listed(number, words):
+    if len(words) < COLUMNS:
+        raise Fault(f"{LIST.name}, line {number}: {len(words)} columns, not {COLUMNS}")
+    role, rsna, before, after, ds, hold, by, cause = words
+    return Listed(one_of(number, "role", role, ROLES), one_of(number, "RSNA", rsna, RSNA),
+                  one_of(number, "from", before, STATES), one_of(number, "to", after, STATES),
+                  one_of(number, "DS", ds, ("-", "J", "L")), tuple(hold.split(",")), by, cause)
+
+
+def read(path=LIST):
+    """The lines of the list, and for each state the classes that pass."""
+    moves, passes = [], {}
+    try:
+        lines = path.read_text().splitlines()
+    except OSError as fault:
+        raise Fault(f"the list of moves can't be read: {fault}") from fault
+    for number, line in enumerate(lines, 1):
+        words = line.split("#", 1)[0].split(maxsplit=COLUMNS - 1)
+        if not words:
+            continue
+        if words[0] == "passes":
+            state = one_of(number, "state", " ".join(words[1:2]), STATES)
+            passes[state] = tuple(int(one_of(number, "class", word, "123")) for word in words[2:])
+        else:
+            moves.append(listed(number, words))
+    missing = [name for name, state in STATES.items() if state not in passes]
+    if missing:
+        raise Fault(f"{path.name}: no line says what passes in state {missing[0]}")
+    return moves, passes

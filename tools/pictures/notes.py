@@ -1,0 +1,49 @@
+"""What the pictures of the states say beside the arrows: sentences, each tested against the list.
+
+A test is given the moves of one role and says whether the sentence holds of them.
+"""
+
+
+def rises_at_report(moves):
+    rising = [move.by for move in moves if move.before == 2 and move.after > 2]
+    return set(rising) == {"primitive-10"}
+
+
+def authentication_keeps(moves):
+    """No authentication moves a state but the first two."""
+    names = ("Authentication", "AUTHENTICATE")
+    return all(move.before < 2 for move in moves if move.cause.startswith(names))
+
+
+def freed_by_clock(moves):
+    return {move.by for move in moves if move.after == 0} == {"clock"}
+
+
+def bad_aid_does_nothing(moves):
+    return not any("bad AID" in move.cause for move in moves)
+
+
+def one_at_a_time(moves):
+    """A success from another AP lowers State 3 and 4 to 2, and does nothing else."""
+    seen = {(move.before, move.after) for move in moves if move.cause.endswith("from another AP")}
+    return seen == {(3, 2), (4, 2)}
+
+
+REPEATED = (("A repeated authentication keeps States 2 to 4.",), authentication_keeps)
+NOTES = {
+    1: ((("The response moves nothing: the state rises", "at the report of its acknowledgement."),
+         rises_at_report),
+        REPEATED,
+        (("A place is freed by the clock alone,", "never by a deauthentication."),
+         freed_by_clock)),
+    2: ((("A success with an AID outside 1 to 2007", "moves nothing."), bad_aid_does_nothing),
+        REPEATED,
+        (("One AP at a time is in State 3 or 4:", "a success at another lowers the first."),
+         one_at_a_time)),
+}
+
+
+def belied(role, moves):
+    """The first sentence of a role that the list belies; None where all hold."""
+    mine = [move for move in moves if move.role == role]
+    return next((" ".join(lines) for lines, holds in NOTES[role] if not holds(mine)), None)

@@ -1,0 +1,65 @@
+"""Runs the bench program with its trace and reads what it prints."""
+
+import collections
+import re
+import subprocess
+
+Record = collections.namedtuple("Record", "place address state exchange left hold")
+Answer = collections.namedtuple(
+    "Answer", "number refusal verdict notice code written ds state octets current table")
+
+LINE = re.compile(r"(\d+) (\d+) ([AD-]) (\d+) (\d+) (\d+) ([JL-]) (\d+)")
+TRACE = re.compile(r"  (?:(octets|current) ([0-9a-f]+)|"
+                   r"place (\d+) ([0-9a-f]{12}) (\d+) (\d+) (\d+) (\d+))")
+SECONDS = 120
+
+
+class BenchFault(Exception):
+    """The bench program could not be run, or printed what it never should."""
+
+
+def run(command, octets):
+    """What the bench program prints on these octets."""
+    try:
+        done = subprocess.run(command, input=octets, capture_output=True, timeout=SECONDS)
+    except OSError as fault:
+        raise BenchFault(f"{command[0]} can't be run: {fault.strerror}") from None
+    except subprocess.TimeoutExpired:
+        raise BenchFault(f"{command[0]} had not ended after {SECONDS} s") from None
+    if done.returncode:
+        said = done.stderr.decode("utf-8", "replace").strip() or f"status {done.returncode}"
+        raise BenchFault(f"the bench program did not run: {said}")
+    return done.stdout.decode("ascii", "replace")
+
+
+def _event(found):
+    number, refusal, verdict, notice, code, written, ds, state = found.groups()
+    return dict(number=int(number), refusal=int(refusal), verdict=verdict, notice=int(notice),
+                code=int(code), written=int(written), ds=ds, state=int(state), octets=b"",
+                current=None, table={})
+
+
+def _add(event, found):
+    what, digits, place, address = found.group(1, 2, 3, 4)
+    if what:
+        event[what] = bytes.fromhex(digits)
+        return
+    octets = bytes.fromhex(address)
+    numbers = (int(text) for text in found.group(5, 6, 7, 8))
+    event["table"][octets] = Record(int(place), octets, *numbers)
+
+
+def read(printed, events):
+    """One answer for each event; the input was laid out here, so anything else is a fault."""
+    found = []
+    for line in printed.splitlines():
+        event, trace = LINE.fullmatch(line), TRACE.fullmatch(line)
+        if event:
+            found.append(_event(event))
+        elif trace and found:
+            _add(found[-1], trace)
+        else:
+            raise BenchFault(f"the bench program printed '{line}', which is no line of its trace")
+    if [event["number"] for event in found] != list(range(1, events + 1)):
+        raise BenchFault(f"the bench program gave {len(found)} answers to {events} events")
+    return [Answer(**event) for event in found]

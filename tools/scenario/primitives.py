@@ -1,0 +1,31 @@
+"""The primitives: number, word, name in the rules, and what their code is called."""
+
+import collections
+
+from .values import number, one_of
+
+Primitive = collections.namedtuple("Primitive", "number word name code default role")
+
+TABLE = [
+    Primitive(1, "authenticate", "AUTHENTICATE.request", "code", 0, "station"),
+    Primitive(2, "respond-authenticate", "AUTHENTICATE.response", "status", 0, "AP"),
+    Primitive(3, "deauthenticate", "DEAUTHENTICATE.request", "reason", 3, "both"),
+    Primitive(4, "associate", "ASSOCIATE.request", "code", 0, "station"),
+    Primitive(5, "reassociate", "REASSOCIATE.request", "code", 0, "station"),
+    Primitive(6, "disassociate", "DISASSOCIATE.request", "reason", 8, "both"),
+    Primitive(7, "respond-associate", "ASSOCIATE.response", "status", 0, "AP"),
+    Primitive(8, "respond-reassociate", "REASSOCIATE.response", "status", 0, "AP"),
+    Primitive(9, "set-protection", "SETPROTECTION Rx_Tx", "code", 0, "both"),
+    Primitive(10, "report", "transmit report", "acknowledged", 1, "AP"),
+]
+BY_WORD = {row.word: row for row in TABLE}
+BY_NUMBER = {row.number: row for row in TABLE}
+CODES = {row.code for row in TABLE}
+
+
+def find(text):
+    """The primitive that a word or number means; a number that the rules do not know is one too."""
+    if text[0].isdigit():
+        which = number(text, "primitive", 255)
+        return BY_NUMBER.get(which) or Primitive(which, text, "unknown", "code", 0, "none")
+    return BY_WORD[one_of(text, BY_WORD, "primitive")]

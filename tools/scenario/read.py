@@ -1,0 +1,173 @@
+"""Reads the text of a scenario into lines and the events that they make."""
+
+import collections
+
+import bench_input as bench
+
+from . import frame_words, frames, primitives
+from .values import Fault, Names, number, octets, one_of
+
+# An event: its record, kind ('frame', 'prim', 'clock'), the peer it names, the primitive's number,
+# the octets of a frame, and whether the scenario gives these by themselves.
+Event = collections.namedtuple("Event", "record kind peer primitive frame raw")
+Line = collections.namedtuple("Line", "text events")
+Settings = collections.namedtuple("Settings", "role own rsna timeouts")
+
+ROLES = {"ap": bench.ACCESS_POINT, "station": bench.STATION}
+FIRST = "ap, station or settings"
+VERBS = ("name", "ap", "station", "settings", "frame", "prim", "clock")
+
+
+class ScenarioFault(Exception):
+    """A fault with its place: FILE:LINE: what is wrong and what would be right."""
+
+
+def _pairs(words, known, what):
+    """The fields of a line, each name=value once."""
+    given = {}
+    for word in words:
+        name, equals, value = word.partition("=")
+        if not equals:
+            raise Fault(f"'{word}' is no field: name=value, without blanks around '='")
+        one_of(name, known, f"field of {what}", guess=name not in frame_words.FIELDS)
+        if name in given:
+            raise Fault(f"{name} is given twice: once is enough")
+        if not value:
+            raise Fault(f"{name} has no value: {name}=.. without blanks around '='")
+        given[name] = value
+    return given
+
+
+class Reader:
+    """Takes line after line; holds the names and the settings so far."""
+
+    def __init__(self):
+        self.names, self.settings, self.settings_record = Names(), None, b""
+
+    def events(self, text):
+        """The events that a line makes: none, one, or one for each address of a range."""
+        words = text.split("#", 1)[0].split()
+        if not words:
+            return []
+        verb = one_of(words[0], VERBS, "word to begin a line")
+        if verb == "name":
+            self._name(" ".join(words[1:]))
+            return []
+        if self.settings is None:
+            if verb in ("frame", "prim", "clock"):
+                raise Fault(f"'{verb}' comes before the settings: the first line is {FIRST}")
+            self._settle(verb, words[1:])
+            return []
+        if verb in ("ap", "station", "settings"):
+            raise Fault(f"a second '{verb}': the settings come once, at the start")
+        return {"frame": self._frame, "prim": self._prim, "clock": self._clock}[verb](words[1:])
+
+    def _name(self, rest):
+        name, equals, value = (part.strip() for part in rest.partition("="))
+        if not (name and equals and value):
+            raise Fault("a name line is: name NAME = ADDRESS")
+        self.names.define(name, value)
+
+    def _settle(self, verb, words):
+        known = ["own", "rsna", "timeouts"] + (["role"] if verb == "settings" else [])
+        given = _pairs(words, known, verb)
+        if verb == "settings" and "role" not in given:
+            raise Fault("settings needs role=N: 1 is an AP, 2 a station")
+        role = ROLES.get(verb) or number(given["role"], "role", 255)
+        if "own" not in given:
+            raise Fault(f"{verb} needs own=ADDRESS, our own address")
+        own = self._single(given["own"], "own")
+        rsna = number(given.get("rsna", "0"), "rsna", 255)
+        times = given.get("timeouts", "100,100").split(",")
+        if len(times) != 2:
+            raise Fault("timeouts are two numbers, authentication and association: timeouts=100,100")
+        times = [number(time, "timeouts", 0xFFFF) for time in times]
+        self.names.set_own(own)
+        self.settings = Settings(role, own, rsna, times)
+        self.settings_record = bench.settings(role, own, rsna, *times)
+
+    def _single(self, text, what):
+        found = self.names.find(text, what)
+        if len(found) > 1:
+            raise Fault(f"{what}: '{text}' is {len(found)} addresses: one is wanted here")
+        return found[0]
+
+    def _values(self, given):
+        """The values of a frame's fields, and which of them, if any, is several addresses."""
+        values = {}
+        for name, text in given.items():
+            field = frame_words.FIELDS[name]
+            if field.kind == "address":
+                values[name] = self.names.find(text, name)
+            elif field.kind == "octets":
+                values[name] = octets(text, name)
+            else:
+                values[name] = number(text, name, field.highest)
+        wide = [name for name, value in values.items() if isinstance(value, list) and len(value) > 1]
+        if len(wide) > 1:
+            raise Fault(f"{wide[0]} and {wide[1]} are both ranges: one range in a line")
+        return values, wide
+
+    def _frame(self, words):
+        if not words:
+            raise Fault("frame needs a word for its kind, as auth-request, or raw and octets")
+        if words[0] == "raw":
+            return [self._heard(octets(" ".join(words[1:]), "raw"), True)]
+        row = frame_words.BY_WORD[one_of(words[0], list(frame_words.BY_WORD) + ["raw"], "frame")]
+        values, wide = self._values(_pairs(words[1:], frame_words.fields_of(row), row.word))
+        count = len(values[wide[0]]) if wide else 1
+        made = []
+        for at in range(count):
+            given = {name: value[at % len(value)] if isinstance(value, list) else value
+                     for name, value in values.items()}
+            role, own, rsna, _ = self.settings
+            made.append(self._heard(frames.encode(row, frames.filled(row, given, own, role, rsna))))
+        return made
+
+    @staticmethod
+    def _heard(laid, raw=False):
+        peer = laid[10:16] if frames.names_peer(laid) else None
+        return Event(bench.frame(laid), "frame", peer, 0, laid, raw)
+
+    def _prim(self, words):
+        if len(words) < 2:
+            raise Fault("a prim line is: prim NUMBER|WORD ADDRESS, and the code by its name")
+        row = primitives.find(words[0])
+        peers = self.names.find(words[1], "peer")
+        for name in (word.partition("=")[0] for word in words[2:]):
+            if name in primitives.CODES and name not in ("code", row.code):
+                raise Fault(f"the code of primitive {row.word} is not called {name}: {row.code}=..")
+        known = [row.code] if row.code == "code" else [row.code, "code"]
+        given = _pairs(words[2:], known, f"primitive {row.word}")
+        if len(given) > 1:
+            raise Fault(f"{row.code} and code are one field: give one of them")
+        text = given.get(row.code, given.get("code", str(row.default)))
+        code = number(text, next(iter(given), row.code), 0xFFFF)
+        return [Event(bench.primitive(row.number, peer, code), "prim", peer, row.number, b"", False)
+                for peer in peers]
+
+    @staticmethod
+    def _clock(words):
+        if len(words) != 1:
+            raise Fault("a clock line is: clock TU, as clock 100")
+        step = number(words[0], "clock", 0xFFFF)
+        return [Event(bench.clock(step), "clock", None, 0, b"", False)]
+
+
+def read(text, file):
+    """The reader after the last line, and the lines with their events."""
+    reader, lines = Reader(), []
+    for at, line in enumerate(text.rstrip("\n").split("\n"), 1):
+        try:
+            lines.append(Line(line.rstrip(), reader.events(line)))
+        except Fault as fault:
+            said = "".join(sign if sign.isprintable() else "?" for sign in str(fault))
+            raise ScenarioFault(f"{file}:{at}: {said}") from None
+    if reader.settings is None:
+        raise ScenarioFault(f"{file}:{len(lines)}: no settings: the first line is {FIRST}")
+    return reader, lines
+
+
+def bench_input(reader, lines):
+    """The octets that the bench program takes."""
+    return reader.settings_record + b"".join(event.record for line in lines for event in line.events)

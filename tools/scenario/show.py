@@ -1,0 +1,70 @@
+"""The scenario told back: its own lines, and below each what the table answered."""
+
+from . import codes, merge, words
+
+INDENT = "    "
+EACH = "each"
+SETTINGS = ("ap", "station", "settings")
+
+
+def _said(one, reader, name=None):
+    """The words of an event as one text; the peer goes by the name given, if any."""
+    event, answer, before = one
+    say = reader.names.say
+
+    def call(address):
+        return name if name and address == event.peer else say(address)
+    return "\n".join(words.tell(event, answer, before, reader.settings.role, call))
+
+
+def _numbered(number, text):
+    """The event's number before the first line, the others below it."""
+    head = f"{INDENT}{number}  "
+    return [head + text.replace("\n", "\n" + " " * len(head))]
+
+
+def _one(one, reader, with_table):
+    text = _said(one, reader)
+    if with_table:
+        text = "\n".join([text] + words.table(one[1], reader.names.say))
+    return _numbered(one[1].number, text)
+
+
+def _line(played, reader, with_table):
+    """What the events of one line of the scenario did; those that did alike are told once."""
+    if with_table or len(played) == 1:
+        return [text for one in played for text in _one(one, reader, with_table)]
+    texts = [_said(one, reader, EACH) for one in played]
+    told = []
+    for at, count in merge.runs(texts):
+        first, last = played[at], played[at + count - 1]
+        if count == 1:
+            told += _one(first, reader, False)
+        else:
+            peers = f"{reader.names.say(first[0].peer)} to {reader.names.say(last[0].peer)}"
+            text = merge.joined(texts[at], texts[at + count - 1])
+            told += _numbered(f"{first[1].number}..{last[1].number}",
+                              f"{count} events, one for each of {peers}:\n{text}")
+    return told
+
+
+def _settings(settings):
+    role = codes.ROLES.get(settings.role, f"role {settings.role}")
+    rsna = {0: "not required", 1: "required"}.get(settings.rsna, str(settings.rsna))
+    return (f"{INDENT}{role}, RSNA {rsna}, timeouts: authentication {settings.timeouts[0]} TU, "
+            f"association {settings.timeouts[1]} TU")
+
+
+def transcript(reader, lines, answers, with_table=False):
+    """All lines of the scenario with the answers between them."""
+    told, at, before = [], 0, {}
+    for line in lines:
+        told.append(line.text)
+        if line.text.lstrip().startswith(SETTINGS):
+            told.append(_settings(reader.settings))
+        played = []
+        for event in line.events:
+            played.append((event, answers[at], before))
+            before, at = answers[at].table, at + 1
+        told += _line(played, reader, with_table) if played else []
+    return "".join(text + "\n" for text in told)

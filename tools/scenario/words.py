@@ -1,0 +1,150 @@
+"""An answer in words: what was decided, told and sent, and what became of the records."""
+
+import bench_input as bench
+
+from . import codes, frame_words, frames, merge
+
+VERDICTS = {"A": "admitted", "D": "discarded"}
+DS = {"J": "joined", "L": "left"}
+REPORT_OCTETS = 8
+JOIN_CONFIRMS = (6, 8)
+MOST_SHOWN = 24
+# Fields of a frame sent that are shown only where they are not these.
+PLAIN = {"version": 0, "flags": 0, "duration": 0, "sequence": 0, "to-ds": 0, "from-ds": 0,
+         "elements": b"", "body": b""}
+HEXADECIMAL = ("capability", "aid-field", "flags")
+
+
+def state(number):
+    return f"State {number} ({codes.STATES.get(number, 'not in the rules')})"
+
+
+def exchange(record):
+    """The exchange under way, as the reader of a record wants it; '' where there is none."""
+    if record.exchange == 0:
+        return ""
+    kind = codes.KINDS[(record.exchange - 1) % 3 + 1]
+    if record.exchange <= 3:
+        return f"{kind} asked, our answer is due"
+    if record.exchange <= 6:
+        return f"{kind} response sent, not yet acknowledged"
+    return f"{kind} request sent, {record.left} TU left for the answer"
+
+
+def details(record, no_hold=""):
+    """Exchange and hold, each behind a comma; no_hold is said where there is none."""
+    parts = [exchange(record), f"hold {record.hold} TU" if record.hold else no_hold]
+    return "".join(", " + part for part in parts if part)
+
+
+def change(name, old, new, rejected=False):
+    """One record after an event, against the one before."""
+    if new is None:
+        return f"{name}: place {old.place} free again"
+    if old is None:
+        return f"{name}: new record in place {new.place}, {state(new.state)}{details(new)}"
+    moved = "stays in " if old.state == new.state else f"State {old.state} -> "
+    no_hold = "no hold" if rejected else "hold over" if old.hold else ""
+    return f"{name}: {moved}{state(new.state)}{details(new, no_hold)}"
+
+
+def shortened(octets):
+    """Octets in hexadecimal, the first of them where they are many."""
+    if len(octets) <= MOST_SHOWN:
+        return octets.hex()
+    return f"{octets[:MOST_SHOWN].hex()}.. ({len(octets)} octets)"
+
+
+def field(name, value, say, word):
+    """One field of a frame, with the meaning of a code; a request's status has none."""
+    if frame_words.FIELDS[name].kind == "address":
+        return f"{name}={say(value)}"
+    if isinstance(value, bytes):
+        return f"{name}={shortened(value)}"
+    if name in ("status", "reason") and word != "auth-request":
+        number, _, meaning = codes.coded(name, value).partition(" ")[2].partition(" ")
+        return f"{name}={number} {meaning}".rstrip()
+    return f"{name}={value:#06x}" if name in HEXADECIMAL else f"{name}={value}"
+
+
+def frame(octets, say, hide=()):
+    """A frame by its word and fields; by its octets where no word writes it."""
+    found = frames.decode(octets)
+    if found is None:
+        return f"raw {shortened(octets)}"
+    row, fields = found
+    order = [name for name in frame_words.FIELDS if name in fields]
+    shown = [field(name, fields[name], say, row.word) for name in order
+             if name not in hide and PLAIN.get(name) != fields[name]]
+    return " ".join([row.word] + shown)
+
+
+def sent(octets, say):
+    """The frame that the table wrote: ours, so its sender and Address 3 go without saying."""
+    return "sends " + frame(octets, say, hide=("from", "third"))
+
+
+def reports(octets, say):
+    """The timeouts of a clock step."""
+    lines = []
+    for at in range(0, len(octets), REPORT_OCTETS):
+        place, kind = octets[at], octets[at + 1]
+        peer = say(octets[at + 2:at + REPORT_OCTETS])
+        lines.append(f"timed out: {codes.KINDS.get(kind, kind)} with {peer}, place {place}")
+    return merge.lines(lines)
+
+
+def notice(answer, say):
+    name, code = codes.NOTICES[answer.notice]
+    text = f"tells our side: {name}"
+    if code:
+        text += ", " + codes.coded(code, answer.code)
+    if answer.current is not None:
+        text += f", current AP {say(answer.current)}"
+    return text
+
+
+def records(event, answer, before, say):
+    """The peer's record, and every other that is not as it was."""
+    lines, after, peer = [], answer.table, event.peer
+    if peer in after:
+        rejected = answer.notice in JOIN_CONFIRMS and answer.code != 0
+        lines.append(change(say(peer), before.get(peer), after[peer], rejected))
+    elif peer is not None:
+        lines.append(f"{say(peer)}: no record")
+    places = {**before, **after}
+    others = [change(say(address), before.get(address), after.get(address))
+              for address in sorted(places, key=lambda known: places[known].place)
+              if address != peer and before.get(address) != after.get(address)]
+    return lines + merge.lines(others)
+
+
+def tell(event, answer, before, role, say):
+    """The lines that say what an event did."""
+    lines = ["heard as " + frame(event.frame, say)] if event.raw and frames.decode(event.frame) else []
+    if answer.refusal:
+        why = codes.refusal(answer.refusal, event.kind, event.primitive, role)
+        lines.append(f"refused {answer.refusal}: {why}")
+        if answer.table == before and not answer.octets:
+            lines[-1] += "; nothing changes"
+            return lines
+    if answer.verdict in VERDICTS:
+        lines.append(VERDICTS[answer.verdict])
+    if answer.notice:
+        lines.append(notice(answer, say))
+    if answer.octets:
+        clock = event.kind == "clock"
+        lines += reports(answer.octets, say) if clock else [sent(answer.octets, say)]
+    if answer.ds in DS:
+        lines.append(f"tells the distribution system: {DS[answer.ds]}")
+    lines += records(event, answer, before, say)
+    return lines or ["nothing changes"]
+
+
+def table(answer, say):
+    """The table after an event, a line for each place that is not free."""
+    if not answer.table:
+        return ["table: empty"]
+    rows = sorted(answer.table.values(), key=lambda record: record.place)
+    return ["table:"] + [f"  place {row.place}: {say(row.address)} {bench.address_text(row.address)}, "
+                         f"{state(row.state)}{details(row)}" for row in rows]
