@@ -1,7 +1,7 @@
 -- What the calls over octets promise, case by case: each refusal, and an event that acts.
 -- Assumes nothing.
 use mathlib.Core.Path.{_≡_, refl, ap, sym, _∙_}
-use mathlib.Core.Bool.{Bool, true, false, not, _&&_, _||_}
+use mathlib.Core.Bool.{Bool, true, false, _&&_, _||_}
 use mathlib.Core.List.{List, []}
 use Prim.Native.Nat.{ℕ, _<_, _≤_}
 use native.Mathlib.Omega.{arith}
@@ -9,8 +9,7 @@ use lib.Dec.{leb, eqb}
 use lib.ListN.{length}
 use borrow.Author.Tests.{lt-ltb, le-ltb, eq-eqb, ne-eqb}
 use lib.Seq.{sets}
-use Rattle.octets.specs.Pick.{pick}
-use Rattle.octets.proofs.Branch.{by-bool, and-left, and-right}
+use Rattle.octets.proofs.Branch.{by-bool, and-left}
 use Rattle.octets.proofs.RowTrip.{Octets}
 use Rattle.peer.specs.Fit.{placeFits}
 use Rattle.peer.specs.Settings.{ap as access-point, settingsFit}

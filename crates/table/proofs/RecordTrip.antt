@@ -1,20 +1,18 @@
 -- Records to octets and back: a table's octets give its records, where each number fits its octets.
 -- Assumes nothing.
 use mathlib.Core.Path.{_≡_, refl, ap, sym, _∙_}
-use mathlib.Core.Bool.{Bool, true, false}
-use mathlib.Core.List.{List, [], _∷_, _++_, append-assoc, append-nil}
+use mathlib.Core.List.{List, [], _∷_, _++_}
 use Prim.Native.Nat.{ℕ, zero, suc, _+_}
 use native.Mathlib.Omega.{arith}
 use lib.Dec.{leb}
 use lib.ListN.{length, drop, length-append}
 use lib.Seq.{drop-append-add}
 use borrow.Author.Tests.{leb-true, leb-false, le-leb, lt-leb}
-use Rattle.octets.specs.Field.{field}
 use Rattle.octets.specs.Row.{rowAt, rowOctets}
 use Rattle.octets.proofs.Branch.{by-bool}
 use Rattle.octets.proofs.RowTrip.{RowFits, row-back}
 use Rattle.peer.specs.declared.record.Record.{Record}
-use Rattle.table.specs.Rows.{recordOf, rowOf, recordsAt, recordsOf, octetsOf}
+use Rattle.table.specs.Rows.{rowOf, recordsAt, recordsOf, octetsOf}
 use Rattle.table.proofs.RowLaws.{record-back, length-row}
 
 -- Each record's numbers fit their octets: an address 8, a hold 4, a time left 2.

@@ -2,22 +2,20 @@
 -- back (`record-back`), what is read at a place, and how the numbers of exchanges are tested place by place.
 -- Assumes nothing.
 use mathlib.Core.Path.{_≡_, refl, ap, sym, _∙_}
-use mathlib.Core.Bool.{Bool, true, false, _&&_}
-use mathlib.Core.List.{List, [], _∷_, _++_, map, append-assoc, append-nil}
+use mathlib.Core.Bool.{true, _&&_}
+use mathlib.Core.List.{List}
 use Prim.Native.Nat.{ℕ, zero, suc, _+_, _*_, _-_, _≤_, _<_}
 use native.Mathlib.Nat.{add-zero, zero-add}
-use native.Mathlib.Numerals.{add-one}
 use native.Mathlib.Omega.{arith}
-use borrow.Author.Tests.{leb-true, eqb-true, le-leb}
+use borrow.Author.Tests.{leb-true, eqb-true}
 use lib.Dec.{leb, eqb}
-use lib.ListN.{length, getD, take, drop, set, length-append}
-use lib.Seq.{set-split, sets, sets-eq, take-add, drop-drop, take-all, drop-append-add, take-at, drop-at}
-use Rattle.octets.specs.Field.{octets, field}
-use Rattle.octets.specs.Row.{blankAt, rowAt, rowIn, rowOctets}
+use lib.ListN.{length, getD, take, drop}
+use lib.Seq.{take-add, drop-drop, take-all}
+use Rattle.octets.specs.Field.{octets}
+use Rattle.octets.specs.Row.{blankAt, rowAt, rowOctets}
 use Rattle.octets.specs.declared.row.Row.{Row}
 use Rattle.octets.proofs.Branch.{and-left, and-right}
-use Rattle.octets.proofs.RowTrip.{Octets, RowFits, blank-row, octets-back, row-back}
-use Rattle.octets.proofs.Le.{length-octets}
+use Rattle.octets.proofs.RowTrip.{Octets, blank-row, octets-back}
 use Rattle.peer.specs.Record.{exchangeNumber, exchangeOf, freeOf}
 use Rattle.peer.specs.declared.record.Record.{Record}
 use Rattle.peer.specs.declared.record.Exchange.{Exchange}

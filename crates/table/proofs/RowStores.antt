@@ -3,7 +3,7 @@
 -- Assumes nothing.
 use mathlib.Core.Path.{_≡_, refl, ap, sym, _∙_}
 use mathlib.Core.List.{List, [], _∷_, _++_, map, map-append, append-assoc, append-nil}
-use Prim.Native.Nat.{ℕ, zero, suc, _+_, _*_, _-_, _≤_, _<_}
+use Prim.Native.Nat.{ℕ, zero, suc, _+_, _*_, _≤_, _<_}
 use native.Mathlib.Numerals.{add-one}
 use native.Mathlib.Omega.{arith}
 use borrow.Author.Tests.{le-leb, ltb-true, ltb-false}
@@ -13,9 +13,8 @@ use Rattle.octets.specs.Pick.{pick}
 use Rattle.octets.proofs.Branch.{by-bool}
 use Rattle.octets.proofs.RowTrip.{Octets}
 use lib.ListN.{length, getD, take, drop, set, length-append, length-drop, length-map, drop-of-length-le}
-use lib.Seq.{sets, sets-eq, take-add, drop-drop, take-all, take-suc, length-take-le, take-at, drop-at, take-nil, drop-nil, take-append-add, drop-append-add, set-split, set-out}
+use lib.Seq.{sets-eq, drop-drop, take-all, take-suc, length-take-le, take-at, drop-at, take-nil, drop-nil, take-append-add, drop-append-add, set-split, set-out}
 use Rattle.octets.specs.Row.{rowAt, rowIn, rowOctets}
-use Rattle.octets.specs.Field.{field}
 use Rattle.peer.specs.Record.{freeOf}
 use Rattle.peer.specs.declared.record.Record.{Record}
 use Rattle.table.specs.Rows.{recordOf, rowOf, recordsOf, octetsOf, isTable}

@@ -26,7 +26,7 @@ use types.Run.{look, init, forget, stop, hop, fld, from, load, addr, lit, of-opd
 use sound.WpLaws.{FmC, fmOf, WpFn-mono}
 use denote.RattleType.{RattleType, owns}
 use denote.Laws.{Is, shows, Lawful, Makes}
-use denote.Plain.{uint-makes, uint-vals, uint-tells, uint-lawful, nothing-lawful}
+use denote.Plain.{uint-makes, nothing-lawful}
 use denote.Builtin.{u8, usize, unit}
 use denote.Array.{Array, arrayVal, array-lawful, array-makes}
 use denote.Ref.{RefT}

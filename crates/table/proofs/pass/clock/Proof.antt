@@ -8,7 +8,6 @@ use borrow.Author.Needs.{needs}
 use lib.ListN.{getD}
 use mathlib.Core.List.{List}
 use mathlib.Core.Path.{refl}
-use native.Mathlib.Omega.{arith}
 use Rattle.peer.specs.declared.record.Record.{Record}
 use Rattle.table.proofs.pass.clock.Statement.{statement}
 use Rattle.table.proofs.pass.clock.Tie as tie
