@@ -3,7 +3,7 @@
 use mathlib.Core.Path.{_≡_, refl, sym, _∙_}
 use mathlib.Core.Bool.{Bool, true, false, not, _&&_, _||_}
 use mathlib.Core.List.{List, [], _∷_}
-use Prim.Native.Nat.{ℕ, zero, suc, _+_, _-_, _<_, _≤_}
+use Prim.Native.Nat.{ℕ, zero, suc, _+_, _-_, _<_, _≤_, _%_}
 use native.Mathlib.Omega.{arith}
 use lib.Dec.{eqb}
 use lib.ListN.{length, drop, getD, set, length-set}
@@ -11,8 +11,12 @@ use lib.Seq.{getD-set-same, getD-set-other, drop-length}
 use borrow.Author.Tests.{eqb-true, eqb-false}
 use Rattle.octets.proofs.Branch.{by-bool, and-left, and-right}
 use Rattle.table.specs.Places.{allTails, allOf}
-use Rattle.table.specs.Fit.{apart, aloneIn, distinctOf, markOf}
+use Rattle.table.specs.Fit.{apart, aloneIn, distinctOf}
 use Rattle.table.proofs.Loops.{left-step}
+
+-- the mark of an address, as `distinct` takes it
+abbrev markOf : ℕ → ℕ
+markOf a = a % 251
 
 -- each address but 0 has its mark set
 abbrev pub Marked : List Bool → List ℕ → Bool

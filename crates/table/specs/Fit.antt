@@ -1,6 +1,6 @@
 -- 01, "Well formed": every clause, for settings and table. (That there are 32 records is the table's type.)
 -- Assumes nothing.
-use Prim.Native.Nat.{ℕ, _+_, _%_}
+use Prim.Native.Nat.{ℕ, _+_}
 use mathlib.Core.Bool.{Bool, not, _&&_, _||_}
 use mathlib.Core.List.{List}
 use lib.Dec.{leb, eqb}
@@ -22,10 +22,6 @@ aloneIn a ads = eqb a 0 || allOf (apart a) ads
 
 abbrev pub distinctOf : List ℕ → Bool
 distinctOf ads = allTails aloneIn ads
-
--- The mark of an address: what the search for two of one address looks at first.
-abbrev pub markOf : ℕ → ℕ
-markOf a = a % 251
 
 unfoldable pub crowdOf : List Record → Counts
 crowdOf t = record { joined = countOf isJoined t; associating = countOf associates t }

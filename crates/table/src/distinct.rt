@@ -1,9 +1,10 @@
 // Whether no address but 0 stands in two places.
 ghost use mathlib.Core.Path.{_≡_};
 ghost use mathlib.Core.Bool.{not, _||_};
+ghost use Prim.Native.Nat.{_%_};
 ghost use lib.ListN.{drop};
 ghost use Rattle.table.specs.Places.{allOf};
-ghost use Rattle.table.specs.Fit.{apart, distinctOf, markOf};
+ghost use Rattle.table.specs.Fit.{apart, distinctOf};
 
 // Whether no place from one on has an address.
 fn unused_from(addresses: &[u64], a: u64, from: usize) -> bool
@@ -21,7 +22,7 @@ fn unused_from(addresses: &[u64], a: u64, from: usize) -> bool
 
 // The mark of an address. Addresses that differ in one octet, by less than 251, have different marks.
 fn mark(a: u64) -> usize
-    ensures { λ r. ⌜ r ≡ markOf a ⌝ }
+    ensures { λ r. ⌜ r ≡ a % 251 ⌝ }
 {
     (a % 251) as usize
 }
