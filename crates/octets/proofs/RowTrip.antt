@@ -6,7 +6,7 @@ use mathlib.Core.List.{List, [], _∷_, _++_, append-assoc}
 use Prim.Native.Nat.{ℕ, zero, suc, _+_, _*_, _^_, _/_, _%_, _<_, _≤_}
 use native.Mathlib.Omega.{arith}
 use mathlib.Core.Bool.{true}
-use borrow.Author.Tests.{le-leb, eqb-true}
+use borrow.Author.Tests.{le-leb, eqb-true, eq-eqb}
 use lib.Dec.{leb, eqb}
 use lib.ListN.{length, getD, take, drop, length-drop}
 use lib.Seq.{length-take-le, getD-drop, take-add, drop-drop, drop-cons}
@@ -82,22 +82,40 @@ row-back r ys h =
     one : (x : ℕ) → le (x ∷ []) ≡ x
     one x = omega arith
 
--- A row whose octets are all zero.
-pub blank-row : (k : ℕ) (xs : List ℕ) → blankAt k xs ≡ true → rowAt k xs ≡ noRow
-unfolding blankAt rowAt
-blank-row k xs e =
-    let r = and-left (leb (k + 16) (length xs)) _ e in
-    let z = and-right (leb (k + 16) (length xs)) _ e in
-    let a : field 8 k xs ≡ 0 = eqb-true (field 8 k xs) 0 (and-left (eqb (field 8 k xs) 0) _ z) in
-    let b : field 8 (k + 8) xs ≡ 0 = eqb-true (field 8 (k + 8) xs) 0 (and-right (eqb (field 8 k xs) 0) _ z) in
-    let s4 = le-split 4 4 (k + 8) xs in
-    let s2 : field 4 (k + 12) xs ≡ field 2 (k + 12) xs + 256 ^ 2 * field 2 (k + 14) xs = at-place 2 2 (k + 12) (k + 14) (omega arith) in
-    let s1 : field 2 (k + 14) xs ≡ field 1 (k + 14) xs + 256 ^ 1 * field 1 (k + 15) xs = at-place 1 1 (k + 14) (k + 15) (omega arith) in
-    let s4′ : field 8 (k + 8) xs ≡ field 4 (k + 8) xs + 256 ^ 4 * field 4 (k + 12) xs = at-place 4 4 (k + 8) (k + 12) (omega arith) in
-    rw (r, a, zero-of (field 4 (k + 8) xs) (omega arith), zero-of (field 2 (k + 12) xs) (omega arith), zero-of (field 1 (k + 14) xs) (omega arith), zero-of (field 1 (k + 15) xs) (omega arith))
-  where
-    at-place : (n m i j : ℕ) → i + n ≡ j → field (n + m) i xs ≡ field n i xs + 256 ^ n * field m j xs
-    at-place n m i j q = le-split n m i xs ∙ rw q
+-- A row is all zero where its octets are, and only there.
+module _ (k : ℕ) (xs : List ℕ) where
+  at-place : (n m i j : ℕ) → i + n ≡ j → field (n + m) i xs ≡ field n i xs + 256 ^ n * field m j xs
+  at-place n m i j q = le-split n m i xs ∙ rw q
 
-    zero-of : (x : ℕ) → x ≡ 0 → x ≡ 0
-    zero-of x q = q
+  s4 : field 8 (k + 8) xs ≡ field 4 (k + 8) xs + 256 ^ 4 * field 4 (k + 12) xs
+  s4 = at-place 4 4 (k + 8) (k + 12) (omega arith)
+
+  s2 : field 4 (k + 12) xs ≡ field 2 (k + 12) xs + 256 ^ 2 * field 2 (k + 14) xs
+  s2 = at-place 2 2 (k + 12) (k + 14) (omega arith)
+
+  s1 : field 2 (k + 14) xs ≡ field 1 (k + 14) xs + 256 ^ 1 * field 1 (k + 15) xs
+  s1 = at-place 1 1 (k + 14) (k + 15) (omega arith)
+
+  zero-of : (x : ℕ) → x ≡ 0 → x ≡ 0
+  zero-of x q = q
+
+  pub blank-row : blankAt k xs ≡ true → rowAt k xs ≡ noRow
+  unfolding blankAt rowAt
+  blank-row e =
+      let r = and-left (leb (k + 16) (length xs)) _ e in
+      let z = and-right (leb (k + 16) (length xs)) _ e in
+      let a : field 8 k xs ≡ 0 = eqb-true (field 8 k xs) 0 (and-left (eqb (field 8 k xs) 0) _ z) in
+      let b : field 8 (k + 8) xs ≡ 0 = eqb-true (field 8 (k + 8) xs) 0 (and-right (eqb (field 8 k xs) 0) _ z) in
+      rw (r, a, zero-of (field 4 (k + 8) xs) (omega (arith, b, s4)), zero-of (field 2 (k + 12) xs) (omega (arith, b, s4, s2)), zero-of (field 1 (k + 14) xs) (omega (arith, b, s4, s2, s1)), zero-of (field 1 (k + 15) xs) (omega (arith, b, s4, s2, s1)))
+
+  pub row-blank : k + 16 ≤ length xs → rowAt k xs ≡ noRow → blankAt k xs ≡ true
+  unfolding blankAt rowAt
+  row-blank h e =
+      let r = le-leb (k + 16) (length xs) h in
+      let q = rw r at e in
+      let a : field 8 k xs ≡ 0 = ap (λ w. w .address) q in
+      let b4 : field 4 (k + 8) xs ≡ 0 = ap (λ w. w .hold) q in
+      let b2 : field 2 (k + 12) xs ≡ 0 = ap (λ w. w .left) q in
+      let b1 : field 1 (k + 14) xs ≡ 0 = ap (λ w. w .state) q in
+      let b0 : field 1 (k + 15) xs ≡ 0 = ap (λ w. w .exchange) q in
+      rw (r, eq-eqb (field 8 k xs) 0 a, eq-eqb (field 8 (k + 8) xs) 0 (omega (arith, s4, s2, s1, b4, b2, b1, b0)))

@@ -76,6 +76,13 @@ pub fn row_at(s: &[u8], at: usize) -> Row
     }
 }
 
+// The address of the row at a place; 0 where the octets end before it does.
+pub fn address_in(s: &[u8], at: usize) -> u64
+    ensures { λ r. ⌜ r ≡ rowAt at (now (s .entry)) .address ⌝ }
+{
+    if has_row(s.len(), at) { long(s, at) } else { 0 }
+}
+
 // Whether the 16 octets at a place are there and all zero: two numbers to look at, where a row has five.
 pub fn blank_at(s: &[u8], at: usize) -> bool
     ensures { λ r. ⌜ r ≡ blankAt at (now (s .entry)) ⌝ }

@@ -14,6 +14,8 @@ use crate::turn::still;
 use octets::class::FrameClass;
 use octets::heard::Heard;
 ghost use mathlib.Core.Path.{_≡_};
+ghost use mathlib.Core.Bool.{true};
+ghost use Rattle.octets.specs.declared.heard.Heard.the-variants as heard;
 ghost use Rattle.peer.specs.Hear.{actOf, groupHeard, hearOf, isExchange};
 
 // Whether what is heard is part of an exchange: management subtypes 0 to 3 and 11.
@@ -27,6 +29,20 @@ fn is_exchange(h: Heard) -> bool
         Heard::Disassociation(_) => false,
         Heard::Request { .. } => true,
         Heard::Response { .. } => true,
+    }
+}
+
+// Whether what is heard changes nothing: data, beacons and all else that has no words of its own here.
+fn is_other(h: Heard) -> bool
+    ensures { λ r. ⌜ (r ≡ true → h ≡ heard.Other) ⌝ }
+{
+    match h {
+        Heard::Other => true,
+        Heard::Authentication { .. } => false,
+        Heard::Deauthentication(_) => false,
+        Heard::Disassociation(_) => false,
+        Heard::Request { .. } => false,
+        Heard::Response { .. } => false,
     }
 }
 
@@ -70,6 +86,10 @@ pub fn hear(s: Settings, p: Record, class: FrameClass, group: bool, h: Heard) ->
 {
     if passes(class, p.state) {} else {
         return replied(s, p, Turn::DISCARD, barred(s, p, class, group, h));
+    }
+    // Most frames end here, and the compiler need not call `act` for them.
+    if is_other(h) {
+        return still(s, p, Turn::ADMIT);
     }
     if group {
         group_heard(s, p, h)

@@ -1,38 +1,37 @@
 -- What the calls over octets promise, case by case: each refusal, and an event that acts.
 -- Assumes nothing.
 use mathlib.Core.Path.{_≡_, refl, ap, sym, _∙_}
-use mathlib.Core.Bool.{Bool, true, false, _&&_, _||_}
+use mathlib.Core.Bool.{Bool, true, false, _&&_}
 use mathlib.Core.List.{List, []}
 use Prim.Native.Nat.{ℕ, _<_, _≤_}
 use native.Mathlib.Omega.{arith}
-use lib.Dec.{leb, eqb}
 use lib.ListN.{length}
 use borrow.Author.Tests.{lt-ltb, le-ltb, eq-eqb, ne-eqb}
 use lib.Seq.{sets}
 use Rattle.octets.proofs.Branch.{by-bool, and-left}
 use Rattle.octets.proofs.RowTrip.{Octets}
-use Rattle.peer.specs.Fit.{placeFits}
-use Rattle.peer.specs.Settings.{ap as access-point, settingsFit}
 use Rattle.peer.specs.declared.settings.Settings.{Settings}
 use Rattle.peer.specs.declared.record.Record.{Record}
-use Rattle.table.specs.Ask.{askedAt, askedOf}
+use Rattle.peer.specs.declared.refuse.Others.{Others}
+use Rattle.peer.specs.declared.turn.Turn.{Turn}
+use Rattle.table.specs.Ask.{askedAt, askedOf, noPlace, refusalsAt}
 use Rattle.table.specs.Answer.{refusalAnswer, countAnswer, saidLength, saidIn, steppedOf}
 use Rattle.table.specs.Exactly.{refusalsOf}
-use Rattle.table.specs.Fit.{crowdOf, distinctOf, sparseOf, wellFormed}
+use Rattle.table.specs.Fit.{wellFormed}
 use Rattle.table.specs.Host.{hostAnswer, hostTable, hostIn}
 use Rattle.table.specs.Lent.{roomOf}
-use Rattle.table.specs.Others.{associatedOf}
 use Rattle.table.specs.Pass.{clockedOf, reportsOf, passedOf, passedIn}
-use Rattle.table.specs.Places.{allOf, addressesOf}
+use Rattle.table.specs.Places.{addressesOf, onFound}
 use Rattle.table.specs.Read.{readOf}
 use Rattle.table.specs.Receive.{heardAt, receivedOf}
 use Rattle.table.specs.Refusals.{firstOf, unless}
 use Rattle.table.specs.Rows.{numberedAt, recordsOf, octetsOf, isTable}
-use Rattle.table.specs.Seat.{metOf}
+use Rattle.table.specs.Seat.{metOf, turnIn}
 use Rattle.table.specs.Step.{stepOf, stepIn}
 use Rattle.table.specs.declared.answer.Answer.{Answer}
 use Rattle.table.specs.declared.answer.Met.{Met}
-use Rattle.table.specs.declared.fit.View.{View}
+use Rattle.table.specs.declared.places.Found.{Found}
+use Rattle.table.specs.declared.places.Found.the-variants.{At, Nothing}
 use Rattle.table.specs.declared.seat.Change.{Change}
 use Rattle.table.specs.declared.step.Event.{Event}
 use Rattle.table.specs.declared.step.Event.the-variants as event
@@ -90,20 +89,18 @@ module _ (xs : List ℕ) (s : Settings) (e : Event) (fs l : List ℕ) where
   unfolding hostAnswer hostTable hostIn steppedOf metOf
   acts i c m em es ei = rw (i, es, ei, ← em) (refl, refl, refl)
 
--- What one pass over the octets finds.
-abbrev pub SeesRows : Settings → List ℕ → View → Type 0
-SeesRows s xs v = (v .fit ≡ (numberedAt 32 0 xs && allOf (placeFits s) (recordsOf xs))) × (v .crowd ≡ crowdOf (recordsOf xs)) × (v .associated ≡ associatedOf (recordsOf xs)) × (v .addresses ≡ addressesOf (recordsOf xs))
+-- Which place is free is asked only for a peer without a record.
+abbrev vacant : Found → Found → Found
+vacant at f = onFound at f (λ i. Nothing)
 
-pub rows-well : (s : Settings) (xs : List ℕ) (v : View) → SeesRows s xs v → (b : Bool)
-    → b ≡ (settingsFit s && (v .fit && (distinctOf (v .addresses) && (eqb (s .role) access-point || (leb (v .crowd .joined) 1 && leb (v .crowd .associating) 1))))) → b ≡ (numberedAt 32 0 xs && wellFormed s (recordsOf xs))
-unfolding wellFormed sparseOf
-rows-well s xs v h b e = e ∙ rw (h .0, h .1, h .3) (turned (settingsFit s) (numberedAt 32 0 xs) _ _)
-  where
-    turned : (a n f r : Bool) → (a && ((n && f) && r)) ≡ (n && (a && (f && r)))
-    turned true true f r = refl
-    turned true false f r = refl
-    turned false true f r = refl
-    turned false false f r = refl
+pub vacant-turn : (t : List Record) (at f : Found) (turn full : Turn) → turnIn t at (vacant at f) turn full ≡ turnIn t at f turn full
+vacant-turn t Nothing f turn full = refl
+vacant-turn t (At i) f turn full = refl
+
+pub vacant-refusal : (s : Settings) (p : Record) (o : Others) (at f : Found) (q a c : ℕ) → firstOf (refusalsAt s p o at (vacant at f) q a c) ≡ firstOf (refusalsAt s p o at f q a c)
+unfolding noPlace
+vacant-refusal s p o Nothing f q a c = refl
+vacant-refusal s p o (At i) f q a c = refl
 
 pub rows-table : (s : Settings) (xs : List ℕ) → length xs ≡ 512 → (numberedAt 32 0 xs && wellFormed s (recordsOf xs)) ≡ true → isTable xs ≡ true
 unfolding isTable

@@ -27,5 +27,7 @@ pub mod RowLaws
 pub mod RowStores
 pub mod Views
 pub mod Marks
+pub mod Standings
+pub mod Surveys
 pub mod HostLaws
 pub mod RecordTrip

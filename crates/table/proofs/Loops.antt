@@ -106,6 +106,10 @@ pub and-true : (a : Bool) → (a && true) ≡ a
 and-true true = refl
 and-true false = refl
 
+pub and-false : (a : Bool) → (a && false) ≡ false
+and-false true = refl
+and-false false = refl
+
 pub at-most-one : (b : Bool) → pick b 1 0 ≤ 1
 at-most-one true = omega arith
 at-most-one false = omega arith

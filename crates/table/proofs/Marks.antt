@@ -3,7 +3,7 @@
 use mathlib.Core.Path.{_≡_, refl, sym, _∙_}
 use mathlib.Core.Bool.{Bool, true, false, not, _&&_, _||_}
 use mathlib.Core.List.{List, [], _∷_}
-use Prim.Native.Nat.{ℕ, zero, suc, _+_, _-_, _<_, _≤_, _%_}
+use Prim.Native.Nat.{ℕ, zero, suc, _+_, _-_, _<_, _≤_, _/_, _%_}
 use native.Mathlib.Omega.{arith}
 use lib.Dec.{eqb}
 use lib.ListN.{length, drop, getD, set, length-set}
@@ -12,11 +12,11 @@ use borrow.Author.Tests.{eqb-true, eqb-false}
 use Rattle.octets.proofs.Branch.{by-bool, and-left, and-right}
 use Rattle.table.specs.Places.{allTails, allOf}
 use Rattle.table.specs.Fit.{apart, aloneIn, distinctOf}
-use Rattle.table.proofs.Loops.{left-step}
+use Rattle.table.proofs.Loops.{left-step, and-false}
 
--- the mark of an address, as `distinct` takes it
-abbrev markOf : ℕ → ℕ
-markOf a = a % 251
+-- the mark of an address, as `survey` takes it
+abbrev pub markOf : ℕ → ℕ
+markOf a = (a / 4294967296 + a / 1099511627776) % 256
 
 -- each address but 0 has its mark set
 abbrev pub Marked : List Bool → List ℕ → Bool
@@ -25,10 +25,6 @@ Marked marks l = allOf (λ b. eqb b 0 || getD marks (markOf b) false) l
 or-true : (x : Bool) → (x || true) ≡ true
 or-true true = refl
 or-true false = refl
-
-and-false : (x : Bool) → (x && false) ≡ false
-and-false true = refl
-and-false false = refl
 
 -- an address whose mark is not set is none of those passed
 none-behind : (marks : List Bool) (a : ℕ) (l : List ℕ) → eqb a 0 ≡ false → getD marks (markOf a) false ≡ false → Marked marks l ≡ true → allOf (apart a) l ≡ true

@@ -9,7 +9,7 @@ use native.Mathlib.Nat.{add-zero, zero-add}
 use native.Mathlib.Omega.{arith}
 use borrow.Author.Tests.{leb-true, eqb-true}
 use lib.Dec.{leb, eqb}
-use lib.ListN.{length, getD, take, drop}
+use lib.ListN.{length, getD, take, drop, length-map, List·getD-map}
 use lib.Seq.{take-add, drop-drop, take-all}
 use Rattle.octets.specs.Field.{octets}
 use Rattle.octets.specs.Row.{blankAt, rowAt, rowOctets}
@@ -21,6 +21,8 @@ use Rattle.peer.specs.declared.record.Record.{Record}
 use Rattle.peer.specs.declared.record.Exchange.{Exchange}
 use Rattle.peer.specs.declared.record.Exchange.the-variants.{None, Asked, Awaiting, Sent}
 use Rattle.octets.specs.declared.heard.Kind.the-variants.{Authentication, Association, Reassociation}
+use Rattle.table.specs.Places.{addressesOf}
+use Rattle.table.proofs.Standings.{by-number}
 use Rattle.table.specs.Rows.{recordOf, rowOf, recordsAt, numberedAt, recordsOf, octetsOf, isTable}
 
 -- An exchange's number gives it back, and a number from 0 to 9 is its exchange's.
@@ -39,20 +41,10 @@ exchange-back (Sent Reassociation) = refl
 
 number-back : (n : ℕ) → n ≤ 9 → exchangeNumber (exchangeOf n) ≡ n
 unfolding exchangeOf
-number-back zero h = refl
-number-back (suc zero) h = refl
-number-back (suc (suc zero)) h = refl
-number-back (suc (suc (suc zero))) h = refl
-number-back (suc (suc (suc (suc zero)))) h = refl
-number-back (suc (suc (suc (suc (suc zero))))) h = refl
-number-back (suc (suc (suc (suc (suc (suc zero)))))) h = refl
-number-back (suc (suc (suc (suc (suc (suc (suc zero))))))) h = refl
-number-back (suc (suc (suc (suc (suc (suc (suc (suc zero)))))))) h = refl
-number-back (suc (suc (suc (suc (suc (suc (suc (suc (suc zero))))))))) h = refl
-number-back (suc (suc (suc (suc (suc (suc (suc (suc (suc (suc n)))))))))) h = absurd (not-le n h)
-  where
-    not-le : (n : ℕ) → suc (suc (suc (suc (suc (suc (suc (suc (suc (suc n))))))))) ≤ 9 → ⊥
-    not-le n h = omega arith
+number-back =
+    by-number (λ n. n ≤ 9 → exchangeNumber (exchangeOf n) ≡ n)
+    (λ h. refl) (λ h. refl) (λ h. refl) (λ h. refl) (λ h. refl) (λ h. refl) (λ h. refl) (λ h. refl) (λ h. refl) (λ h. refl)
+    (λ n m h. absurd (omega arith))
 
 pub record-back : (p : Record) → recordOf (rowOf p) ≡ p
 unfolding recordOf rowOf
@@ -92,6 +84,14 @@ at-place i xs h = sym (record-at 32 i 0 xs h ∙ rw zero-add)
 pub no-place : (i : ℕ) (xs : List ℕ) → 32 ≤ i → freeOf ≡ getD (recordsOf xs) i freeOf
 no-place i xs h = sym (past-the-end 32 i 0 xs h)
 
+-- The addresses, by the octets.
+pub length-addresses : (xs : List ℕ) → length (addressesOf (recordsOf xs)) ≡ 32
+length-addresses xs = length-map (recordsOf xs) (λ p. p .address) ∙ length-records 32 0 xs
+
+pub address-at : (i : ℕ) (xs : List ℕ) → i < 32 → rowAt (16 * i) xs .address ≡ getD (addressesOf (recordsOf xs)) i 0
+unfolding recordOf
+address-at i xs h = ap (λ p. p .address) (at-place i xs h) ∙ sym (List·getD-map (λ p. p .address) (recordsOf xs) i freeOf)
+
 -- The numbers from one place on: its own, and those behind it.
 pub numbered-step : (i : ℕ) (xs : List ℕ) → i < 32 → numberedAt (32 - i) (16 * i) xs ≡ (leb (rowAt (16 * i) xs .exchange) 9 && numberedAt (32 - (i + 1)) (16 * (i + 1)) xs)
 unfolding numberedAt
@@ -105,6 +105,14 @@ unfolding numberedAt
 numbered-end i xs h =
     let m : 32 - i ≡ 0 = omega arith in
     rw m
+
+pub numbered-row : (n i k : ℕ) (xs : List ℕ) → i < n → numberedAt n k xs ≡ true → leb (rowAt (k + 16 * i) xs .exchange) 9 ≡ true
+unfolding numberedAt
+numbered-row zero i k xs h e = absurd (omega arith)
+numbered-row (suc n) zero k xs h e = rw (add-zero) (and-left (leb (rowAt k xs .exchange) 9) (numberedAt n (k + 16) xs) e)
+numbered-row (suc n) (suc i) k xs h e =
+    let q : k + 16 + 16 * i ≡ k + 16 * suc i = omega arith in
+    rw q at (numbered-row n i (k + 16) xs (omega arith) (and-right (leb (rowAt k xs .exchange) 9) (numberedAt n (k + 16) xs) e))
 
 -- A place whose octets are all zero is free, and has a number.
 pub blank-free : (i : ℕ) (xs : List ℕ) → i < 32 → blankAt (16 * i) xs ≡ true → getD (recordsOf xs) i freeOf ≡ freeOf

@@ -11,14 +11,15 @@ use lib.Dec.{ltb}
 use mathlib.Core.Bool.{true}
 use Rattle.octets.specs.Pick.{pick}
 use Rattle.octets.proofs.Branch.{by-bool}
-use Rattle.octets.proofs.RowTrip.{Octets}
-use lib.ListN.{length, getD, take, drop, set, length-append, length-drop, length-map, drop-of-length-le}
+use Rattle.octets.specs.Field.{octets}
+use Rattle.octets.proofs.RowTrip.{Octets, blank-row, octets-back, row-blank}
+use lib.ListN.{length, getD, take, drop, set, length-append, length-drop, length-map, drop-of-length-le, take-append-drop}
 use lib.Seq.{sets-eq, drop-drop, take-all, take-suc, length-take-le, take-at, drop-at, take-nil, drop-nil, take-append-add, drop-append-add, set-split, set-out}
-use Rattle.octets.specs.Row.{rowAt, rowIn, rowOctets}
+use Rattle.octets.specs.Row.{blankAt, noRow, rowAt, rowIn, rowOctets}
 use Rattle.peer.specs.Record.{freeOf}
 use Rattle.peer.specs.declared.record.Record.{Record}
 use Rattle.table.specs.Rows.{recordOf, rowOf, recordsOf, octetsOf, isTable}
-use Rattle.table.proofs.RowLaws.{length-row, length-records, at-place, octets-of-records}
+use Rattle.table.proofs.RowLaws.{length-row, length-records, at-place, blank-free, octets-of-records}
 
 take-past : {A : Type 0} (a b : List A) (n : ℕ) → length a ≡ 16 → take (16 + n) (a ++ b) ≡ a ++ take n b
 take-past a b n e = rw (← e) (take-append-add a b n)
@@ -118,6 +119,19 @@ module _ (f : Record → Record) (xs₀ : List ℕ) where
         let inside : i < length (recordsOf xs₀) = rw (length-records 32 0 xs₀) l in
         let more : done (i + 1) ≡ done i ++ rowOctets (rowOf p) = rw (add-one, take-suc (recordsOf xs₀) i freeOf inside, map-append, octets-append, append-nil, e) in
         rw (le-leb (16 * i + 16) (length xs) room, sets-eq (rowOctets (rowOf p)) xs (16 * i) (rw (length-row (rowOf p)) room), length-row (rowOf p), before, behind, more, m)
+
+    -- A free place that stays free needs no store.
+    pub rewritten-free : Octets xs₀ → blankAt (16 * i) xs ≡ true → f freeOf ≡ freeOf → Rewritten (i + 1) xs
+    unfolding octetsOf rowOf rowOctets octets
+    rewritten-free h b e =
+        let none : rowAt (16 * i) xs₀ ≡ noRow = sym row-unread ∙ blank-row (16 * i) xs b in
+        let free : getD (recordsOf xs₀) i freeOf ≡ freeOf = blank-free i xs₀ l (row-blank (16 * i) xs₀ (rw n (omega arith)) none) in
+        let zeros : take 16 (drop (16 * i) xs₀) ≡ rowOctets noRow = sym (octets-back xs₀ h (16 * i) (rw n (omega arith))) ∙ ap rowOctets none in
+        let inside : i < length (recordsOf xs₀) = rw (length-records 32 0 xs₀) l in
+        let more : done (i + 1) ≡ done i ++ rowOctets noRow = rw (add-one, take-suc (recordsOf xs₀) i freeOf inside, map-append, octets-append, append-nil, free, e) in
+        let m : 16 * (i + 1) ≡ 16 * i + 16 = omega arith in
+        let split : drop (16 * i) xs₀ ≡ rowOctets noRow ++ drop (16 * i + 16) xs₀ = sym (take-append-drop 16 (drop (16 * i) xs₀)) ∙ rw (zeros, drop-drop 16 (16 * i) xs₀) in
+        w ∙ rw (split, more, m) (sym (append-assoc (done i) (rowOctets noRow) (drop (16 * i + 16) xs₀)))
 
   pub rewritten-none : Rewritten 0 xs₀
   unfolding octetsOf

@@ -116,19 +116,6 @@ module _ (s : Settings) (t : List Record) (addresses : List ℕ) (fit : Bool) (c
           let o : eqb (crowd .joined) 0 ≡ true = eq-eqb (crowd .joined) 0 (omega (arith, j0, z)) in
           rw (q, o) (v .none o)
 
-  -- a free place more
-  pub viewed-free : i < 32 → getD t i freeOf ≡ freeOf → Viewed s t (set addresses i 0) fit crowd associated (i + 1)
-  unfolding placeFits isFree isJoined associates countedOf
-  viewed-free h e =
-      viewed-more h freeOf (sym e) fit (sym (and-true fit)) crowd
-      (λ n. record { joined = sym (add-zero (crowd .joined)) n; associating = sym (add-zero (crowd .associating)) n })
-      associated
-      (still (eqb (crowd .joined) 0))
-    where
-      still : (b : Bool) → associated ≡ pick (b && false) 0 associated
-      still true = refl
-      still false = refl
-
   -- after the last
   pub viewed-all : 32 ≤ i → Sees s t (record { fit = fit; crowd = crowd; associated = associated; addresses = addresses })
   unfolding crowdOf associatedOf

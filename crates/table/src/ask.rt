@@ -26,7 +26,6 @@ ghost use mathlib.Core.List.{List};
 ghost use lib.ListN.{length};
 ghost use Rattle.peer.specs.Ask.{askOf};
 ghost use Rattle.peer.specs.declared.record.Record.{Record as Peer};
-ghost use Rattle.table.specs.Places.{findOf};
 ghost use Rattle.table.specs.Answer.{saidIn, steppedOf};
 ghost use Rattle.table.specs.Seat.{aidOf, metOf, turnIn};
 ghost use Rattle.table.specs.Refusals.{firstOf, unless};
@@ -46,15 +45,15 @@ fn may_ask(s: Settings, primitive: u8, address: u64, code: u16) -> bool
 }
 
 // Whether a new record is needed and no place is free: refusal 6.
-fn no_place(addresses: &[u64], at: Found, primitive: u8) -> bool
-    ensures { λ r. ⌜ r ≡ noPlace at (findOf (now (addresses .entry)) 0) primitive ⌝ }
+fn no_place(free: Found, at: Found, primitive: u8) -> bool
+    ensures { λ r. ⌜ r ≡ noPlace at free primitive ⌝ }
 {
     if primitive != 1 {
         return false;
     }
     match at {
         Found::At(_) => false,
-        Found::Nothing => match find(addresses, 0) {
+        Found::Nothing => match free {
             Found::At(_) => false,
             Found::Nothing => true,
         },
@@ -74,7 +73,7 @@ fn aid(at: Found) -> u16
 // The first refusal that applies, of those after 1 and 2; 0 where none does.
 fn refusal(
     s: Settings,
-    addresses: &[u64],
+    free: Found,
     at: Found,
     p: Record,
     o: Others,
@@ -82,7 +81,7 @@ fn refusal(
     address: u64,
     code: u16,
 ) -> u8
-    ensures { λ r. ⌜ r ≡ firstOf (refusalsAt s p o at (findOf (now (addresses .entry)) 0) primitive address code) ⌝ }
+    ensures { λ r. ⌜ r ≡ firstOf (refusalsAt s p o at free primitive address code) ⌝ }
 {
     if may_ask(s, primitive, address, code) {} else {
         return 3;
@@ -99,16 +98,16 @@ fn refusal(
     if held(p, primitive) {
         return 8;
     }
-    if no_place(addresses, at, primitive) {
+    if no_place(free, at, primitive) {
         return 6;
     }
     0
 }
 
-// A primitive to a peer that was found at a place, or nowhere, in a table with these addresses.
+// A primitive to a peer that was found at a place, or nowhere, with the lowest free place.
 pub(crate) fn asked_at(
     s: Settings,
-    addresses: &[u64],
+    free: Found,
     at: Found,
     p: Record,
     o: Others,
@@ -116,15 +115,15 @@ pub(crate) fn asked_at(
     address: u64,
     code: u16,
 ) -> Change
-    ensures { λ r. ⌜ ((t : List Peer) → metOf t r ≡ unless (firstOf (refusalsAt s p o at (findOf (now (addresses .entry)) 0) primitive address code)) t (turnIn t at (findOf (now (addresses .entry)) 0) (askOf s (aidOf at) p o primitive code) (askOf s (aidOf at) p o primitive code))) ⌝ }
+    ensures { λ r. ⌜ ((t : List Peer) → metOf t r ≡ unless (firstOf (refusalsAt s p o at free primitive address code)) t (turnIn t at free (askOf s (aidOf at) p o primitive code) (askOf s (aidOf at) p o primitive code))) ⌝ }
 {
-    let n = refusal(s, addresses, at, p, o, primitive, address, code);
+    let n = refusal(s, free, at, p, o, primitive, address, code);
     if n != 0 {
         return refused(n);
     }
     let turn = peer::ask::ask(s, aid(at), p, o, primitive, code);
     // The other turn is not needed: without a free place refusal 6 came first.
-    turn_in(addresses, at, turn, turn)
+    turn_in(free, at, turn, turn)
 }
 
 fn asked(
@@ -149,7 +148,7 @@ fn asked(
     let o = others(s, v.associated, v.crowd);
     asked_at(
         s,
-        &addresses,
+        find(&addresses, 0),
         at,
         peer_at(t, at, address),
         o,

@@ -31,14 +31,14 @@ pub struct View {
     pub addresses: [u64; 32],
 }
 
-pub(crate) fn both(a: bool, b: bool) -> bool
+fn both(a: bool, b: bool) -> bool
     ensures { λ r. ⌜ r ≡ (a && b) ⌝ }
 {
     if a { b } else { false }
 }
 
 // A count, one more where a test holds.
-fn counted(n: usize, b: bool) -> usize
+pub(crate) fn counted(n: usize, b: bool) -> usize
     requires { ⌜ n < 32 ⌝ }
     ensures { λ r. ⌜ r ≡ n + pick b 1 0 ⌝ }
 {
@@ -46,7 +46,7 @@ fn counted(n: usize, b: bool) -> usize
 }
 
 // The counts with one record more.
-pub(crate) fn crowd_with(c: Counts, p: Record) -> Counts
+fn crowd_with(c: Counts, p: Record) -> Counts
     requires { ⌜ (c .joined < 32) × (c .associating < 32) ⌝ }
     ensures { λ r. ⌜ r ≡ countedOf c p ⌝ }
 {
@@ -57,7 +57,7 @@ pub(crate) fn crowd_with(c: Counts, p: Record) -> Counts
 }
 
 // The address of the first record in State 3 or 4, once one record more is seen.
-pub(crate) fn first_joined(joined: usize, associated: u64, p: Record) -> u64
+fn first_joined(joined: usize, associated: u64, p: Record) -> u64
     ensures { λ r. ⌜ r ≡ pick (eqb joined 0 && isJoined p) (p .address) associated ⌝ }
 {
     if joined != 0 {
@@ -94,7 +94,7 @@ pub fn survey(s: Settings, t: [Record; 32]) -> View
 }
 
 // Whether a station has at most one record in State 3 or 4 and at most one (re)association under way.
-fn sparse(s: Settings, c: Counts) -> bool
+pub(crate) fn sparse(s: Settings, c: Counts) -> bool
     ensures { λ r. ⌜ r ≡ (eqb (s .role) ap || (leb (c .joined) 1 && leb (c .associating) 1)) ⌝ }
 {
     if s.role == Settings::AP {

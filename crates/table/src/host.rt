@@ -1,20 +1,20 @@
 // The boundary to C: the three calls over a table of 512 octets. `include/peer_table.h` declares them.
 use crate::answer::Answer;
 use crate::ask::asked_at;
-use crate::fit::well;
 use crate::others::others;
-use crate::places::find;
 use crate::read::Reading;
 use crate::read::read;
 use crate::receive::heard_from;
 use crate::rows::clock;
+use crate::rows::find;
 use crate::rows::met;
 use crate::rows::peer_at;
-use crate::rows::survey;
+use crate::rows::vacancy;
 use crate::seat::Change;
 use crate::seat::answered;
 use crate::seat::refused;
 use crate::seat::settled;
+use crate::survey::survey;
 use octets::frame::Frame;
 use peer::refuse::Others;
 use peer::settings::Settings;
@@ -25,14 +25,16 @@ ghost use lib.ListN.{length};
 ghost use Rattle.table.specs.Host.{hostAnswer, hostTable, hostIn};
 ghost use Rattle.table.specs.Ask.{askedAt};
 ghost use Rattle.table.specs.Others.{othersOf};
+ghost use Rattle.table.specs.Places.{addressesOf};
 ghost use Rattle.table.specs.Receive.{heardAt};
 ghost use Rattle.table.specs.Rows.{recordsOf};
 ghost use Rattle.table.specs.Seat.{metOf};
 ghost use Rattle.table.specs.declared.step.Event.the-variants as event;
 
 // A frame that was read.
-fn heard_at(s: Settings, table: &[u8], addresses: &[u64], r: Reading) -> Change
-    ensures { λ c. ⌜ metOf (recordsOf (now (table .entry))) c ≡ heardAt s (recordsOf (now (table .entry))) (now (addresses .entry)) r ⌝ }
+fn heard_at(s: Settings, table: &[u8], r: Reading) -> Change
+    requires { ⌜ length (now table) ≡ 512 ⌝ }
+    ensures { λ c. ⌜ metOf (recordsOf (now (table .entry))) c ≡ heardAt s (recordsOf (now (table .entry))) (addressesOf (recordsOf (now (table .entry)))) r ⌝ }
 {
     match r {
         Reading::Refused(n) => refused(n),
@@ -44,10 +46,10 @@ fn heard_at(s: Settings, table: &[u8], addresses: &[u64], r: Reading) -> Change
             class,
             heard,
         } => {
-            let at = find(addresses, peer);
+            let at = find(table, peer);
             heard_from(
                 s,
-                addresses,
+                vacancy(table, at),
                 at,
                 peer_at(table, at, peer),
                 group,
@@ -59,21 +61,14 @@ fn heard_at(s: Settings, table: &[u8], addresses: &[u64], r: Reading) -> Change
 }
 
 // A primitive, by what it asks of the whole table.
-fn asked_in(
-    s: Settings,
-    table: &[u8],
-    addresses: &[u64],
-    o: Others,
-    primitive: u8,
-    address: u64,
-    code: u16,
-) -> Change
-    ensures { λ c. ⌜ (o ≡ othersOf s (recordsOf (now (table .entry))) → metOf (recordsOf (now (table .entry))) c ≡ askedAt s (recordsOf (now (table .entry))) (now (addresses .entry)) primitive address code) ⌝ }
+fn asked_in(s: Settings, table: &[u8], o: Others, primitive: u8, address: u64, code: u16) -> Change
+    requires { ⌜ length (now table) ≡ 512 ⌝ }
+    ensures { λ c. ⌜ (o ≡ othersOf s (recordsOf (now (table .entry))) → metOf (recordsOf (now (table .entry))) c ≡ askedAt s (recordsOf (now (table .entry))) (addressesOf (recordsOf (now (table .entry)))) primitive address code) ⌝ }
 {
-    let at = find(addresses, address);
+    let at = find(table, address);
     asked_at(
         s,
-        addresses,
+        vacancy(table, at),
         at,
         peer_at(table, at, address),
         o,
@@ -100,11 +95,10 @@ pub extern "C" fn peer_receive(
         return Answer::refusal(2);
     }
     let v = survey(s, &*table);
-    let addresses = v.addresses;
-    if well(s, v.fit, v.crowd, &addresses) {} else {
+    if v.well {} else {
         return Answer::refusal(2);
     }
-    let c = heard_at(s, &*table, &addresses, read(s.own, frame));
+    let c = heard_at(s, &*table, read(s.own, frame));
     met(table, c);
     let answer = c.answer;
     let reply = c.reply;
@@ -130,12 +124,11 @@ pub extern "C" fn peer_ask(
         return Answer::refusal(2);
     }
     let v = survey(s, &*table);
-    let addresses = v.addresses;
-    if well(s, v.fit, v.crowd, &addresses) {} else {
+    if v.well {} else {
         return Answer::refusal(2);
     }
     let o = others(s, v.associated, v.crowd);
-    let c = asked_in(s, &*table, &addresses, o, primitive, address, code);
+    let c = asked_in(s, &*table, o, primitive, address, code);
     met(table, c);
     let answer = c.answer;
     let reply = c.reply;
@@ -154,8 +147,7 @@ pub extern "C" fn peer_pass(table: &mut [u8], s: Settings, step: u16, out: &mut 
         return Answer::refusal(2);
     }
     let v = survey(s, &*table);
-    let addresses = v.addresses;
-    if well(s, v.fit, v.crowd, &addresses) {} else {
+    if v.well {} else {
         return Answer::refusal(2);
     }
     if step == 0 {

@@ -13,3 +13,4 @@ pub mod receive;
 pub mod rows;
 pub mod seat;
 pub mod step;
+pub mod survey;

@@ -28,24 +28,23 @@ ghost use lib.ListN.{length};
 ghost use Rattle.peer.specs.Authentication.{fullOf};
 ghost use Rattle.peer.specs.Hear.{hearOf};
 ghost use Rattle.peer.specs.declared.record.Record.{Record as Peer};
-ghost use Rattle.table.specs.Places.{findOf};
 ghost use Rattle.table.specs.Seat.{metOf, turnIn};
 ghost use Rattle.table.specs.Answer.{saidIn, steppedOf};
 ghost use Rattle.table.specs.Receive.{heardAt, receivedOf};
 
-// A frame from a peer that was found at a place, or nowhere, in a table with these addresses.
+// A frame from a peer that was found at a place, or nowhere, with the lowest free place.
 pub(crate) fn heard_from(
     s: Settings,
-    addresses: &[u64],
+    free: Found,
     at: Found,
     p: Record,
     group: bool,
     class: FrameClass,
     h: Heard,
 ) -> Change
-    ensures { λ r. ⌜ ((t : List Peer) → metOf t r ≡ turnIn t at (findOf (now (addresses .entry)) 0) (hearOf s p class group h) (fullOf s p)) ⌝ }
+    ensures { λ r. ⌜ ((t : List Peer) → metOf t r ≡ turnIn t at free (hearOf s p class group h) (fullOf s p)) ⌝ }
 {
-    turn_in(addresses, at, hear(s, p, class, group, h), full(s, p))
+    turn_in(free, at, hear(s, p, class, group, h), full(s, p))
 }
 
 // A frame that was read.
@@ -63,7 +62,15 @@ fn heard_at(s: Settings, t: [Record; 32], addresses: &[u64], r: Reading) -> Chan
             heard,
         } => {
             let at = find(addresses, peer);
-            heard_from(s, addresses, at, peer_at(t, at, peer), group, class, heard)
+            heard_from(
+                s,
+                find(addresses, 0),
+                at,
+                peer_at(t, at, peer),
+                group,
+                class,
+                heard,
+            )
         }
     }
 }

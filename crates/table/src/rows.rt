@@ -1,25 +1,20 @@
 // The table as a host lends it: 32 rows of 16 octets.
-use crate::fit::Counts;
-use crate::fit::View;
-use crate::fit::both;
-use crate::fit::crowd_with;
-use crate::fit::first_joined;
 use crate::pass::put_report;
 use crate::places::Found;
 use crate::seat::Change;
 use octets::row::Row;
+use octets::row::address_in;
 use octets::row::blank_at;
 use octets::row::put_row;
 use octets::row::row_at;
 use peer::association::parted;
-use peer::fit::place_fits;
 use peer::record::Record;
 use peer::record::exchange_number;
 use peer::record::exchange_of;
 use peer::settings::Settings;
 use peer::tick::tick;
 ghost use mathlib.Core.Path.{_≡_};
-ghost use mathlib.Core.Bool.{true, _&&_};
+ghost use mathlib.Core.Bool.{true};
 ghost use mathlib.Core.List.{map};
 ghost use lib.Dec.{ltb};
 ghost use lib.ListN.{length, getD, set};
@@ -28,13 +23,11 @@ ghost use Prim.Native.Nat.{_*_, _≤_};
 ghost use Rattle.octets.specs.Pick.{pick};
 ghost use Rattle.octets.specs.Row.{rowIn};
 ghost use Rattle.peer.specs.Association.{partedOf};
-ghost use Rattle.peer.specs.Fit.{placeFits};
 ghost use Rattle.peer.specs.Record.{freeOf};
-ghost use Rattle.table.specs.Fit.{crowdOf};
-ghost use Rattle.table.specs.Others.{associatedOf};
 ghost use Rattle.table.specs.Pass.{clockedOf, reportsOf};
-ghost use Rattle.table.specs.Places.{allOf, addressesOf};
-ghost use Rattle.table.specs.Rows.{recordOf, rowOf, numberedAt, recordsOf, octetsOf, isTable};
+ghost use Rattle.table.specs.Places.{addressesOf, findOf, onFound};
+ghost use Rattle.table.specs.declared.places.Found.the-variants as found;
+ghost use Rattle.table.specs.Rows.{recordOf, rowOf, recordsOf, octetsOf, isTable};
 ghost use Rattle.table.specs.Seat.{metOf, peerOf};
 
 pub fn record_of(r: Row) -> Record
@@ -82,6 +75,36 @@ pub fn store(table: &mut [u8], i: usize, p: Record)
     }
 }
 
+// The lowest place with an address. Of 0: the lowest free place.
+pub(crate) fn find(table: &[u8], address: u64) -> Found
+    requires { ⌜ length (now table) ≡ 512 ⌝ }
+    ensures { λ r. ⌜ r ≡ findOf (addressesOf (recordsOf (now (table .entry)))) address ⌝ }
+{
+    // Never so, by the contract. It tells the compiler the length: no row is tested for room.
+    if table.len() != 512 {
+        return Found::Nothing;
+    }
+    let mut i = 0;
+    while i < 32 {
+        if address_in(table, 16 * i) == address {
+            return Found::At(i);
+        }
+        i += 1;
+    }
+    Found::Nothing
+}
+
+// The lowest free place, looked up only for a peer that has no record.
+pub(crate) fn vacancy(table: &[u8], at: Found) -> Found
+    requires { ⌜ length (now table) ≡ 512 ⌝ }
+    ensures { λ r. ⌜ r ≡ onFound at (findOf (addressesOf (recordsOf (now (table .entry)))) 0) (λ i. found.Nothing) ⌝ }
+{
+    match at {
+        Found::At(_) => Found::Nothing,
+        Found::Nothing => find(table, 0),
+    }
+}
+
 // The record of a peer, or a fresh one.
 pub fn peer_at(table: &[u8], at: Found, address: u64) -> Record
     ensures { λ r. ⌜ r ≡ peerOf (recordsOf (now (table .entry))) at address ⌝ }
@@ -89,55 +112,6 @@ pub fn peer_at(table: &[u8], at: Found, address: u64) -> Record
     match at {
         Found::Nothing => Record::fresh(address),
         Found::At(i) => look(table, i),
-    }
-}
-
-// What one pass finds. Whether each place fits covers its exchange's number. A free place, all zero, is passed over.
-pub(crate) fn survey(s: Settings, table: &[u8]) -> View
-    requires { ⌜ length (now table) ≡ 512 ⌝ }
-    ensures { λ r. ⌜ (r .fit ≡ (numberedAt 32 0 (now (table .entry)) && allOf (placeFits s) (recordsOf (now (table .entry))))) × (r .crowd ≡ crowdOf (recordsOf (now (table .entry)))) × (r .associated ≡ associatedOf (recordsOf (now (table .entry)))) × (r .addresses ≡ addressesOf (recordsOf (now (table .entry)))) ⌝ }
-{
-    // Never so, by the contract. It tells the compiler the length: no row is tested for room.
-    if table.len() != 512 {
-        return View {
-            fit: false,
-            crowd: Counts {
-                joined: 0,
-                associating: 0,
-            },
-            associated: 0,
-            addresses: [0u64; 32],
-        };
-    }
-    let mut addresses = [0u64; 32];
-    let mut numbered = true;
-    let mut fit = true;
-    let mut crowd = Counts {
-        joined: 0,
-        associating: 0,
-    };
-    let mut associated = 0;
-    let mut i = 0;
-    while i < 32 {
-        let at = i;
-        i += 1;
-        if blank_at(table, 16 * at) {
-            addresses[at] = 0;
-        } else {
-            let r = row_at(table, 16 * at);
-            let p = record_of(r);
-            numbered = both(numbered, r.exchange <= 9);
-            fit = both(fit, place_fits(s, p));
-            associated = first_joined(crowd.joined, associated, p);
-            crowd = crowd_with(crowd, p);
-            addresses[at] = p.address;
-        }
-    }
-    View {
-        fit: both(numbered, fit),
-        crowd,
-        associated,
-        addresses,
     }
 }
 
@@ -193,12 +167,16 @@ pub(crate) fn clock(s: Settings, table: &mut [u8], d: u16, out: &mut [u8]) -> u1
     let mut n = 0;
     let mut i = 0;
     while i < 32 {
-        let p = look(&*table, i);
-        let q = tick(s, p, d);
-        n = put_report(&mut *out, n, i as u8, q.report, p.address);
-        let after = q.peer;
-        store(&mut *table, i, after);
+        let at = i;
         i += 1;
+        // A free place has nothing to wait for.
+        if blank_at(&*table, 16 * at) {} else {
+            let p = look(&*table, at);
+            let q = tick(s, p, d);
+            n = put_report(&mut *out, n, at as u8, q.report, p.address);
+            let after = q.peer;
+            store(&mut *table, at, after);
+        }
     }
     n as u16
 }

@@ -3,7 +3,6 @@ use crate::answer::Answer;
 use crate::answer::Met;
 use crate::answer::Stepped;
 use crate::places::Found;
-use crate::places::find;
 use crate::places::look;
 use crate::places::part_all;
 use crate::places::store;
@@ -19,7 +18,6 @@ ghost use Rattle.octets.specs.Pick.{pick};
 ghost use Rattle.peer.specs.Association.{partedOf};
 ghost use Rattle.peer.specs.declared.record.Record.{Record as Peer};
 ghost use Rattle.table.specs.Answer.{saidLength, saidIn, steppedOf, settledOf, refusedOf, countAnswer};
-ghost use Rattle.table.specs.Places.{findOf};
 ghost use Rattle.table.specs.Seat.{metOf, peerOf, seatedOf, strangerOf, startsOf, newcomerOf, turnIn};
 
 // What an event makes of a table, and what is said.
@@ -92,11 +90,11 @@ pub fn starts(turn: Turn) -> bool
 }
 
 // A turn of a peer that has no record: a new one takes the lowest free place; where there is none, the other turn.
-fn newcomer(addresses: &[u64], turn: Turn, full: Turn) -> Change
-    ensures { λ r. ⌜ ((t : List Peer) → metOf t r ≡ newcomerOf t (findOf (now (addresses .entry)) 0) turn full) ⌝ }
+fn newcomer(free: Found, turn: Turn, full: Turn) -> Change
+    ensures { λ r. ⌜ ((t : List Peer) → metOf t r ≡ newcomerOf t free turn full) ⌝ }
 {
     if starts(turn) {
-        match find(addresses, 0) {
+        match free {
             Found::Nothing => stranger(full),
             Found::At(i) => seated(i, turn),
         }
@@ -105,12 +103,12 @@ fn newcomer(addresses: &[u64], turn: Turn, full: Turn) -> Change
     }
 }
 
-// A turn of the peer found at a place, or nowhere, in a table with these addresses.
-pub(crate) fn turn_in(addresses: &[u64], at: Found, turn: Turn, full: Turn) -> Change
-    ensures { λ r. ⌜ ((t : List Peer) → metOf t r ≡ turnIn t at (findOf (now (addresses .entry)) 0) turn full) ⌝ }
+// A turn of the peer found at a place, or nowhere, with the lowest free place.
+pub(crate) fn turn_in(free: Found, at: Found, turn: Turn, full: Turn) -> Change
+    ensures { λ r. ⌜ ((t : List Peer) → metOf t r ≡ turnIn t at free turn full) ⌝ }
 {
     match at {
-        Found::Nothing => newcomer(addresses, turn, full),
+        Found::Nothing => newcomer(free, turn, full),
         Found::At(i) => seated(i, turn),
     }
 }

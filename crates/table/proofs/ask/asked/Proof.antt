@@ -40,8 +40,11 @@ find-requires c κs = search needs
 others-requires : tie.Need-others-requires
 others-requires c κs = search needs
 
-slice-aggregate-asked-at : tie.Need-slice-aggregate-asked-at
-slice-aggregate-asked-at c = search needs
+slice-aggregate-find-2 : tie.Need-slice-aggregate-find-2
+slice-aggregate-find-2 c = search needs
+
+find-requires-2 : tie.Need-find-requires-2
+find-requires-2 c κs = search needs
 
 peer-at-requires : tie.Need-peer-at-requires
 peer-at-requires c κs = search needs
@@ -51,7 +54,7 @@ asked-at-requires c κs = search needs
 
 returns-3 : tie.Need-returns-3
 unfolding askedOf askedAt firstOf unless
-returns-3 c = rw (le-ltb _ _ (c .before .before .before .before .before .before .before .before .before .before .before .if1 .left), ← well-of (c .before .before .before .before .before .before .before .before .before .before .before .before .args .s) (c .before .before .before .before .before .before .before .before .before .before .before .before .args .t) (c .before .before .before .before .before .before .before .before .before .before .survey .result) (c .before .before .before .before .before .before .before .before .before .before .survey .ensures) _ (c .before .before .before .before .before .before .before .well .ensures), c .before .before .before .before .before .before .if2 .taken, ← c .before .before .before .before .before .before .before .before .before .before .survey .ensures .3, ← c .before .before .before .before .find .ensures, ← c .before .peer-at .ensures, ← c .before .before .before .others .ensures (c .before .before .before .before .before .before .before .before .before .before .before .before .args .t) (c .before .before .before .before .before .before .before .before .before .before .survey .ensures .2) (c .before .before .before .before .before .before .before .before .before .before .survey .ensures .1)) (c .asked-at .ensures (c .before .before .before .before .before .before .before .before .before .before .before .before .args .t))
+returns-3 c = rw (le-ltb _ _ (c .before .before .before .before .before .before .before .before .before .before .before .before .if1 .left), ← well-of (c .before .before .before .before .before .before .before .before .before .before .before .before .before .args .s) (c .before .before .before .before .before .before .before .before .before .before .before .before .before .args .t) (c .before .before .before .before .before .before .before .before .before .before .before .survey .result) (c .before .before .before .before .before .before .before .before .before .before .before .survey .ensures) _ (c .before .before .before .before .before .before .before .before .well .ensures), c .before .before .before .before .before .before .before .if2 .taken, ← c .before .before .before .before .before .before .before .before .before .before .before .survey .ensures .3, ← c .before .before .before .before .before .find .ensures, ← c .before .before .find2 .ensures, ← c .before .peer-at .ensures, ← c .before .before .before .before .others .ensures (c .before .before .before .before .before .before .before .before .before .before .before .before .before .args .t) (c .before .before .before .before .before .before .before .before .before .before .before .survey .ensures .2) (c .before .before .before .before .before .before .before .before .before .before .before .survey .ensures .1)) (c .asked-at .ensures (c .before .before .before .before .before .before .before .before .before .before .before .before .before .args .t))
 
 pub asked-spec : {M : Type 1} → statement M
 asked-spec =
@@ -67,7 +70,8 @@ asked-spec =
     slice-aggregate-find
     find-requires
     others-requires
-    slice-aggregate-asked-at
+    slice-aggregate-find-2
+    find-requires-2
     peer-at-requires
     asked-at-requires
     returns-3)

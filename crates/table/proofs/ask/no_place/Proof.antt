@@ -17,9 +17,6 @@ enum-told c = search needs
 enum-told-2 : tie.Need-enum-told-2
 enum-told-2 c = search needs
 
-find-requires : tie.Need-find-requires
-find-requires c κs = search needs
-
 enum-told-3 : tie.Need-enum-told-3
 enum-told-3 c = search needs
 
@@ -32,22 +29,13 @@ returns-2 c = search (tests, c .enum-told .given .1)
 
 returns-3 : tie.Need-returns-3
 unfolding noPlace
-returns-3 c = rw (eq-eqb _ _ (c .before .before .before .before .before .if1 .left), c .before .before .before .enum-told2 .given .1, ← c .before .before .find .ensures, c .enum-told3 .given .1)
+returns-3 c = rw (eq-eqb _ _ (c .before .before .before .before .if1 .left), c .before .before .enum-told2 .given .1, c .enum-told3 .given .1)
 
 returns-4 : tie.Need-returns-4
 unfolding noPlace
-returns-4 c = rw (eq-eqb _ _ (c .before .before .before .before .before .if1 .left), c .before .before .before .enum-told2 .given .1, ← c .before .before .find .ensures, c .enum-told4 .given .1)
+returns-4 c = rw (eq-eqb _ _ (c .before .before .before .before .if1 .left), c .before .before .enum-told2 .given .1, c .enum-told4 .given .1)
 
 pub no-place-spec : {M : Type 1} → statement M
 no-place-spec =
     tie.close
-    (tie.spec
-    returns
-    enum-told
-    enum-told-2
-    find-requires
-    enum-told-3
-    enum-told-4
-    returns-2
-    returns-3
-    returns-4)
+    (tie.spec returns enum-told enum-told-2 enum-told-3 enum-told-4 returns-2 returns-3 returns-4)

@@ -1,9 +1,12 @@
 -- `table::host::heard_at` meets its contract: each answer by the tests that led to it and what its callees ensure.
 -- Assumes nothing.
+use Rattle.table.proofs.HostLaws.{vacant-turn}
+use Rattle.table.specs.Places.{addressesOf, findOf}
 use Rattle.table.specs.Receive.{heardFrom}
 use Rattle.table.specs.Rows.{recordsOf}
 use borrow.Author.Needs.{needs}
 use denote.Ref.{now}
+use mathlib.Core.Path.{_∙_}
 use Rattle.table.proofs.host.heard_at.Statement.{statement}
 use Rattle.table.proofs.host.heard_at.Tie as tie
 
@@ -37,6 +40,9 @@ enum-known-r-2 c = search needs
 find-requires : tie.Need-find-requires
 find-requires c κs = search needs
 
+vacancy-requires : tie.Need-vacancy-requires
+vacancy-requires c κs = search needs
+
 peer-at-requires : tie.Need-peer-at-requires
 peer-at-requires c κs = search needs
 
@@ -45,19 +51,19 @@ heard-from-requires c κs = search needs
 
 returns : tie.Need-returns
 unfolding heardFrom
-returns c = rw (c .before .before .r .given .1) (c .refused .ensures (recordsOf (now (c .before .before .before .before .before .before .args .table))))
+returns c = rw (c .before .before .r .given .1) (c .refused .ensures (recordsOf (now (c .before .before .before .before .before .args .table))))
 
 returns-2 : tie.Need-returns-2
 unfolding heardFrom
-returns-2 c = rw (c .before .before .enum-told .given .1, ← c .before .verdict .ensures) (c .settled .ensures (recordsOf (now (c .before .before .before .before .before .before .args .table))))
+returns-2 c = rw (c .before .before .enum-told .given .1, ← c .before .verdict .ensures) (c .settled .ensures (recordsOf (now (c .before .before .before .before .before .args .table))))
 
 returns-3 : tie.Need-returns-3
 unfolding heardFrom
-returns-3 c = rw (c .before .before .enum-told2 .given .1, ← c .before .verdict2 .ensures) (c .settled2 .ensures (recordsOf (now (c .before .before .before .before .before .before .args .table))))
+returns-3 c = rw (c .before .before .enum-told2 .given .1, ← c .before .verdict2 .ensures) (c .settled2 .ensures (recordsOf (now (c .before .before .before .before .before .args .table))))
 
 returns-4 : tie.Need-returns-4
 unfolding heardFrom
-returns-4 c = rw (c .before .before .before .before .r2 .given .1, ← c .before .before .find .ensures, ← c .before .peer-at .ensures) (c .heard-from .ensures (recordsOf (now (c .before .before .before .before .before .before .before .before .args .table))))
+returns-4 c = rw (c .before .before .before .before .before .r2 .given .1, ← c .before .before .before .find .ensures, ← c .before .peer-at .ensures) (c .heard-from .ensures (recordsOf (now (c .before .before .before .before .before .before .before .before .args .table))) ∙ rw (c .before .before .vacancy .ensures) (vacant-turn (recordsOf (now (c .before .before .before .before .before .before .before .before .args .table))) (c .before .before .before .find .result) (findOf (addressesOf (recordsOf (now (c .before .before .before .before .before .before .before .before .args .table)))) 0) _ _))
 
 pub heard-at-spec : {M : Type 1} → statement M
 heard-at-spec =
@@ -73,6 +79,7 @@ heard-at-spec =
     settled-requires-2
     enum-known-r-2
     find-requires
+    vacancy-requires
     peer-at-requires
     heard-from-requires
     returns

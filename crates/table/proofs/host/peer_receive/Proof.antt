@@ -1,9 +1,8 @@
--- `table::host::peer_receive` meets its contract: each refusal by its own law, and a frame that acts by the change it makes.
+-- `table::host::peer_receive` meets its contract: each answer by the tests that led to it and what its callees ensure.
 -- Assumes nothing.
 use Rattle.table.specs.declared.step.Event.the-variants as event
 use Rattle.octets.proofs.Branch.{and-right}
-use Rattle.octets.specs.declared.frame.Frame.{Frame}
-use Rattle.table.proofs.HostLaws.{acts, frame-heard, ill-formed, no-room, no-table, not-long, rows-table, rows-well}
+use Rattle.table.proofs.HostLaws.{acts, frame-heard, ill-formed, no-room, no-table, not-long, rows-table}
 use Rattle.table.specs.Fit.{wellFormed}
 use Rattle.table.specs.Receive.{receivedOf}
 use Rattle.table.specs.Rows.{numberedAt, recordsOf}
@@ -30,12 +29,6 @@ returns-2 c = rw (c .refusal2 .ensures) (no-table (now (c .before .before .befor
 survey-requires : tie.Need-survey-requires
 survey-requires c κs = search needs
 
-slice-aggregate-well : tie.Need-slice-aggregate-well
-slice-aggregate-well c = search needs
-
-well-requires : tie.Need-well-requires
-well-requires c κs = search needs
-
 refusal-requires-3 : tie.Need-refusal-requires-3
 refusal-requires-3 c κs = search needs
 
@@ -43,10 +36,7 @@ same-length : tie.Need-same-length
 same-length c = search needs
 
 returns-3 : tie.Need-returns-3
-returns-3 c = rw (c .refusal3 .ensures) (ill-formed (now (c .before .before .before .before .before .before .before .before .before .before .before .before .args .table)) (c .before .before .before .before .before .before .before .before .before .before .before .before .args .s) event.Frame (now (c .before .before .before .before .before .before .before .before .before .before .before .before .args .frame)) (now (c .before .before .before .before .before .before .before .before .before .before .before .before .args .out)) (λ k. c .before .before .before .before .before .before .before .before .before .before .before .slice-known .given k .fits) (c .before .before .before .before .before .before .before .if2 .left) (c .before .before .before .before .before .before .before .before .if1 .left) (sym (rows-well (c .before .before .before .before .before .before .before .before .before .before .before .before .args .s) (now (c .before .before .before .before .before .before .before .before .before .before .before .before .args .table)) (c .before .before .before .before .before .survey .result) (c .before .before .before .before .before .survey .ensures) _ (c .before .before .well .ensures)) ∙ c .before .if3 .left))
-
-slice-aggregate-heard-at : tie.Need-slice-aggregate-heard-at
-slice-aggregate-heard-at c = search needs
+returns-3 c = rw (c .refusal3 .ensures) (ill-formed (now (c .before .before .before .before .before .before .before .before .before .args .table)) (c .before .before .before .before .before .before .before .before .before .args .s) event.Frame (now (c .before .before .before .before .before .before .before .before .before .args .frame)) (now (c .before .before .before .before .before .before .before .before .before .args .out)) (λ k. c .before .before .before .before .before .before .before .before .slice-known .given k .fits) (c .before .before .before .before .if2 .left) (c .before .before .before .before .before .if1 .left) (sym (c .before .before .survey .ensures .0) ∙ c .before .if3 .left))
 
 read-requires : tie.Need-read-requires
 read-requires c κs = search needs
@@ -67,7 +57,7 @@ same-length-3 : tie.Need-same-length-3
 same-length-3 c = search needs
 
 returns-4 : tie.Need-returns-4
-returns-4 c = let w = sym (rows-well (c .before .before .before .before .before .before .before .before .before .before .before .before .before .before .before .before .before .before .before .before .before .before .before .before .args .s) (now (c .before .before .before .before .before .before .before .before .before .before .before .before .before .before .before .before .before .before .before .before .before .before .before .before .args .table)) (c .before .before .before .before .before .before .before .before .before .before .before .before .before .before .before .before .before .survey .result) (c .before .before .before .before .before .before .before .before .before .before .before .before .before .before .before .before .before .survey .ensures) _ (c .before .before .before .before .before .before .before .before .before .before .before .before .before .before .well .ensures)) ∙ c .before .before .before .before .before .before .before .before .before .before .before .before .before .if3 .taken in let i = rows-table (c .before .before .before .before .before .before .before .before .before .before .before .before .before .before .before .before .before .before .before .before .before .before .before .before .args .s) (now (c .before .before .before .before .before .before .before .before .before .before .before .before .before .before .before .before .before .before .before .before .before .before .before .before .args .table)) (c .before .before .before .before .before .before .before .before .before .before .before .before .before .before .before .before .before .before .before .if2 .left) w in let f = and-right (numberedAt 32 0 (now (c .before .before .before .before .before .before .before .before .before .before .before .before .before .before .before .before .before .before .before .before .before .before .before .before .args .table))) (wellFormed (c .before .before .before .before .before .before .before .before .before .before .before .before .before .before .before .before .before .before .before .before .before .before .before .before .args .s) (recordsOf (now (c .before .before .before .before .before .before .before .before .before .before .before .before .before .before .before .before .before .before .before .before .before .before .before .before .args .table)))) w in let m : metOf (recordsOf (now (c .before .before .before .before .before .before .before .before .before .before .before .before .before .before .before .before .before .before .before .before .before .before .before .before .args .table))) (c .before .before .before .before .before .before .before .before .before .heard-at .result) ≡ receivedOf (c .before .before .before .before .before .before .before .before .before .before .before .before .before .before .before .before .before .before .before .before .before .before .before .before .args .s) (recordsOf (now (c .before .before .before .before .before .before .before .before .before .before .before .before .before .before .before .before .before .before .before .before .before .before .before .before .args .table))) (now (c .before .before .before .before .before .before .before .before .before .before .before .before .before .before .before .before .before .before .before .before .before .before .before .before .args .frame)) (length (now (c .before .before .before .before .before .before .before .before .before .before .before .before .before .before .before .before .before .before .before .before .before .before .before .before .args .out))) = c .before .before .before .before .before .before .before .before .before .heard-at .ensures ∙ rw (c .before .before .before .before .before .before .before .before .before .before .read .ensures, c .before .before .before .before .before .before .before .before .before .before .before .before .before .before .before .before .before .survey .ensures .3) (frame-heard (c .before .before .before .before .before .before .before .before .before .before .before .before .before .before .before .before .before .before .before .before .before .before .before .before .args .s) (recordsOf (now (c .before .before .before .before .before .before .before .before .before .before .before .before .before .before .before .before .before .before .before .before .before .before .before .before .args .table))) (now (c .before .before .before .before .before .before .before .before .before .before .before .before .before .before .before .before .before .before .before .before .before .before .before .before .args .frame)) (length (now (c .before .before .before .before .before .before .before .before .before .before .before .before .before .before .before .before .before .before .before .before .before .before .before .before .args .out))) (c .before .before .before .before .before .before .before .before .before .before .before .before .before .before .before .before .before .before .before .before .if1 .left) f) in let a = acts (now (c .before .before .before .before .before .before .before .before .before .before .before .before .before .before .before .before .before .before .before .before .before .before .before .before .args .table)) (c .before .before .before .before .before .before .before .before .before .before .before .before .before .before .before .before .before .before .before .before .before .before .before .before .args .s) event.Frame (now (c .before .before .before .before .before .before .before .before .before .before .before .before .before .before .before .before .before .before .before .before .before .before .before .before .args .frame)) (now (c .before .before .before .before .before .before .before .before .before .before .before .before .before .before .before .before .before .before .before .before .before .before .before .before .args .out)) i (c .before .before .before .before .before .before .before .before .before .heard-at .result) _ m refl refl in (c .before .before .answered .ensures .0 ∙ a .0, c .before .before .before .before .before .before .before .met .ensures i ∙ a .1, c .before .before .answered .ensures .1 ∙ a .2)
+returns-4 c = let w = sym (c .before .before .before .before .before .before .before .before .before .before .before .before .before .survey .ensures .0) ∙ c .before .before .before .before .before .before .before .before .before .before .before .before .if3 .taken in let i = rows-table (c .before .before .before .before .before .before .before .before .before .before .before .before .before .before .before .before .before .before .before .before .args .s) (now (c .before .before .before .before .before .before .before .before .before .before .before .before .before .before .before .before .before .before .before .before .args .table)) (c .before .before .before .before .before .before .before .before .before .before .before .before .before .before .before .if2 .left) w in let f = and-right (numberedAt 32 0 (now (c .before .before .before .before .before .before .before .before .before .before .before .before .before .before .before .before .before .before .before .before .args .table))) (wellFormed (c .before .before .before .before .before .before .before .before .before .before .before .before .before .before .before .before .before .before .before .before .args .s) (recordsOf (now (c .before .before .before .before .before .before .before .before .before .before .before .before .before .before .before .before .before .before .before .before .args .table)))) w in let m : metOf (recordsOf (now (c .before .before .before .before .before .before .before .before .before .before .before .before .before .before .before .before .before .before .before .before .args .table))) (c .before .before .before .before .before .before .before .before .before .heard-at .result) ≡ receivedOf (c .before .before .before .before .before .before .before .before .before .before .before .before .before .before .before .before .before .before .before .before .args .s) (recordsOf (now (c .before .before .before .before .before .before .before .before .before .before .before .before .before .before .before .before .before .before .before .before .args .table))) (now (c .before .before .before .before .before .before .before .before .before .before .before .before .before .before .before .before .before .before .before .before .args .frame)) (length (now (c .before .before .before .before .before .before .before .before .before .before .before .before .before .before .before .before .before .before .before .before .args .out))) = c .before .before .before .before .before .before .before .before .before .heard-at .ensures ∙ rw (c .before .before .before .before .before .before .before .before .before .before .read .ensures) (frame-heard (c .before .before .before .before .before .before .before .before .before .before .before .before .before .before .before .before .before .before .before .before .args .s) (recordsOf (now (c .before .before .before .before .before .before .before .before .before .before .before .before .before .before .before .before .before .before .before .before .args .table))) (now (c .before .before .before .before .before .before .before .before .before .before .before .before .before .before .before .before .before .before .before .before .args .frame)) (length (now (c .before .before .before .before .before .before .before .before .before .before .before .before .before .before .before .before .before .before .before .before .args .out))) (c .before .before .before .before .before .before .before .before .before .before .before .before .before .before .before .before .if1 .left) f) in let a = acts (now (c .before .before .before .before .before .before .before .before .before .before .before .before .before .before .before .before .before .before .before .before .args .table)) (c .before .before .before .before .before .before .before .before .before .before .before .before .before .before .before .before .before .before .before .before .args .s) event.Frame (now (c .before .before .before .before .before .before .before .before .before .before .before .before .before .before .before .before .before .before .before .before .args .frame)) (now (c .before .before .before .before .before .before .before .before .before .before .before .before .before .before .before .before .before .before .before .before .args .out)) i (c .before .before .before .before .before .before .before .before .before .heard-at .result) _ m refl refl in (c .before .before .answered .ensures .0 ∙ a .0, c .before .before .before .before .before .before .before .met .ensures i ∙ a .1, c .before .before .answered .ensures .1 ∙ a .2)
 
 pub peer-receive-spec : {M : Type 1} → statement M
 peer-receive-spec =
@@ -78,12 +68,9 @@ peer-receive-spec =
     refusal-requires-2
     returns-2
     survey-requires
-    slice-aggregate-well
-    well-requires
     refusal-requires-3
     same-length
     returns-3
-    slice-aggregate-heard-at
     read-requires
     heard-at-requires
     met-requires

@@ -35,6 +35,9 @@ enum-known-r-2 c = search needs
 find-requires : tie.Need-find-requires
 find-requires c κs = search needs
 
+find-requires-2 : tie.Need-find-requires-2
+find-requires-2 c κs = search needs
+
 peer-at-requires : tie.Need-peer-at-requires
 peer-at-requires c κs = search needs
 
@@ -55,7 +58,7 @@ returns-3 c = rw (c .before .before .enum-told2 .given .1, ← c .before .verdic
 
 returns-4 : tie.Need-returns-4
 unfolding heardFrom
-returns-4 c = rw (c .before .before .before .before .r2 .given .1, ← c .before .before .find .ensures, ← c .before .peer-at .ensures) (c .heard-from .ensures (c .before .before .before .before .before .before .before .args .t))
+returns-4 c = rw (c .before .before .before .before .before .r2 .given .1, ← c .before .before .before .find .ensures, ← c .before .before .find2 .ensures, ← c .before .peer-at .ensures) (c .heard-from .ensures (c .before .before .before .before .before .before .before .before .args .t))
 
 pub heard-at-spec : {M : Type 1} → statement M
 heard-at-spec =
@@ -71,6 +74,7 @@ heard-at-spec =
     settled-requires-2
     enum-known-r-2
     find-requires
+    find-requires-2
     peer-at-requires
     heard-from-requires
     returns

@@ -8,17 +8,14 @@ use Rattle.table.proofs.seat.newcomer.Tie as tie
 starts-requires : tie.Need-starts-requires
 starts-requires c κs = search needs
 
-find-requires : tie.Need-find-requires
-find-requires c κs = search needs
-
 enum-told : tie.Need-enum-told
 enum-told c = search needs
 
 stranger-requires : tie.Need-stranger-requires
 stranger-requires c κs = search needs
 
-enum-known-i : tie.Need-enum-known-i
-enum-known-i c = search needs
+enum-known-free : tie.Need-enum-known-free
+enum-known-free c = search needs
 
 seated-requires : tie.Need-seated-requires
 seated-requires c κs = search needs
@@ -28,11 +25,11 @@ stranger-requires-2 c κs = search needs
 
 returns : tie.Need-returns
 unfolding newcomerOf
-returns c = λ t. rw (← c .before .before .before .before .before .starts .ensures, c .before .before .before .before .if1 .taken, ← c .before .before .before .find .ensures, c .before .enum-told .given .1) (c .stranger .ensures t)
+returns c = λ t. rw (← c .before .before .before .before .starts .ensures, c .before .before .before .if1 .taken, c .before .enum-told .given .1) (c .stranger .ensures t)
 
 returns-2 : tie.Need-returns-2
 unfolding newcomerOf
-returns-2 c = λ t. rw (← c .before .before .before .before .before .before .starts .ensures, c .before .before .before .before .before .if1 .taken, ← c .before .before .before .before .find .ensures, c .before .before .i .given .1) (c .seated .ensures t)
+returns-2 c = λ t. rw (← c .before .before .before .before .before .starts .ensures, c .before .before .before .before .if1 .taken, c .before .before .free .given .1) (c .seated .ensures t)
 
 returns-3 : tie.Need-returns-3
 unfolding newcomerOf
@@ -43,10 +40,9 @@ newcomer-spec =
     tie.close
     (tie.spec
     starts-requires
-    find-requires
     enum-told
     stranger-requires
-    enum-known-i
+    enum-known-free
     seated-requires
     stranger-requires-2
     returns

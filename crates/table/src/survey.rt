@@ -1,0 +1,254 @@
+// One pass over the octets of a table, from the last place in use to the first: whether settings and table are well formed, and what a
+// station's primitives ask of the whole table.
+use crate::fit::Counts;
+use crate::fit::counted;
+use crate::fit::sparse;
+use octets::address::valid;
+use octets::row::Row;
+use octets::row::address_in;
+use octets::row::blank_at;
+use octets::row::row_at;
+use peer::record::Record;
+use peer::settings::Settings;
+ghost use mathlib.Core.Path.{_≡_};
+ghost use mathlib.Core.Bool.{true, false, not, _&&_, _||_};
+ghost use lib.Dec.{leb};
+ghost use lib.ListN.{length, drop};
+ghost use Prim.Native.Nat.{ℕ, _+_, _*_, _/_, _%_, _<_, _≤_};
+ghost use Rattle.octets.specs.Pick.{pick};
+ghost use Rattle.octets.specs.Row.{blankAt};
+ghost use Rattle.peer.specs.Fit.{exchangeFits, recordFits};
+ghost use Rattle.peer.specs.Record.{associates, exchangeOf, underWay};
+ghost use Rattle.peer.specs.Settings.{ap, station, settingsFit};
+ghost use Rattle.table.specs.Fit.{apart, crowdOf, wellFormed};
+ghost use Rattle.table.specs.Others.{associatedOf};
+ghost use Rattle.table.specs.Places.{addressesOf, allOf};
+ghost use Rattle.table.specs.Rows.{numberedAt, recordOf, recordsOf};
+
+// What the pass finds. Where all is not well formed, the rest says nothing.
+pub struct Seen {
+    pub well: bool,
+    // The address of the first record in State 3 or 4, or 0.
+    pub associated: u64,
+    pub crowd: Counts,
+}
+
+// Whether a row is well formed by itself, and whether it has a (re)association under way.
+pub struct Standing {
+    pub fit: bool,
+    pub associating: bool,
+}
+
+fn ill() -> Seen
+    ensures { λ r. ⌜ r .well ≡ false ⌝ }
+{
+    Seen {
+        well: false,
+        associated: 0,
+        crowd: Counts {
+            joined: 0,
+            associating: 0,
+        },
+    }
+}
+
+fn unfit() -> Standing
+    ensures { λ r. ⌜ r ≡ record { fit = false; associating = false } ⌝ }
+{
+    Standing {
+        fit: false,
+        associating: false,
+    }
+}
+
+// An exchange, by its number, at an access point: none, authentication asked, or from State 2 on (re)association asked or awaiting.
+fn ap_standing(e: u8, state: u8, left: u16) -> Standing
+    ensures { λ r. ⌜ (r .fit ≡ (leb e 9 && exchangeFits (exchangeOf e) ap state left)) × (r .fit ≡ true → r .associating ≡ leb 2 (underWay (exchangeOf e))) ⌝ }
+{
+    if left != 0 {
+        return unfit();
+    }
+    if e < 2 {
+        return Standing {
+            fit: true,
+            associating: false,
+        };
+    }
+    if state < Record::STATE_2 {
+        return unfit();
+    }
+    if 6 < e {
+        return unfit();
+    }
+    Standing {
+        fit: e != 4,
+        associating: true,
+    }
+}
+
+// The same at a station: none, authentication sent, or from State 2 on (re)association sent.
+fn station_standing(e: u8, state: u8, left: u16) -> Standing
+    ensures { λ r. ⌜ (r .fit ≡ (leb e 9 && exchangeFits (exchangeOf e) station state left)) × (r .fit ≡ true → r .associating ≡ leb 2 (underWay (exchangeOf e))) ⌝ }
+{
+    if e == 0 {
+        return Standing {
+            fit: left == 0,
+            associating: false,
+        };
+    }
+    if left == 0 {
+        return unfit();
+    }
+    if e == 7 {
+        return Standing {
+            fit: true,
+            associating: false,
+        };
+    }
+    if state < Record::STATE_2 {
+        return unfit();
+    }
+    if e < 8 {
+        return unfit();
+    }
+    Standing {
+        fit: e <= 9,
+        associating: true,
+    }
+}
+
+// A row that is not free.
+fn row_standing(s: Settings, r: Row) -> Standing
+    requires { ⌜ settingsFit s ≡ true ⌝ }
+    ensures { λ x. ⌜ (x .fit ≡ (leb (r .exchange) 9 && recordFits s (recordOf r))) × (x .fit ≡ true → x .associating ≡ associates (recordOf r)) ⌝ }
+{
+    if r.state < Record::STATE_1 {
+        return unfit();
+    }
+    if Record::STATE_4 < r.state {
+        return unfit();
+    }
+    if r.address == s.own {
+        return unfit();
+    }
+    if valid(r.address) {} else {
+        return unfit();
+    }
+    if s.role != Settings::AP {
+        return station_standing(r.exchange, r.state, r.left);
+    }
+    if r.hold != 0 {
+        return unfit();
+    }
+    ap_standing(r.exchange, r.state, r.left)
+}
+
+// The address of the first record in State 3 or 4 from a row on, by that of the rows behind it.
+fn first_joined(r: Row, associated: u64) -> u64
+    ensures { λ a. ⌜ a ≡ pick (leb 3 (r .state)) (r .address) associated ⌝ }
+{
+    if Record::STATE_3 <= r.state {
+        r.address
+    } else {
+        associated
+    }
+}
+
+// Whether no place behind one has an address.
+fn unused_behind(table: &[u8], a: u64, at: usize) -> bool
+    requires { ⌜ at < 32 ⌝ }
+    ensures { λ r. ⌜ r ≡ allOf (apart a) (drop (at + 1) (addressesOf (recordsOf (now (table .entry))))) ⌝ }
+{
+    let mut i = at + 1;
+    while i < 32 {
+        if address_in(table, 16 * i) == a {
+            return false;
+        }
+        i += 1;
+    }
+    true
+}
+
+// The mark of an address. Addresses that differ in the last octet, or in the one before it, have different marks.
+fn mark(a: u64) -> usize
+    ensures { λ r. ⌜ r ≡ (a / 4294967296 + a / 1099511627776) % 256 ⌝ }
+{
+    ((a / 4294967296 + a / 1099511627776) % 256) as usize
+}
+
+// The same, looked up only where it may be otherwise: no place has the address if none has its mark.
+fn alone(table: &[u8], a: u64, at: usize, marked: bool) -> bool
+    requires { ⌜ at < 32 ⌝ }
+    ensures { λ r. ⌜ r ≡ (not marked || allOf (apart a) (drop (at + 1) (addressesOf (recordsOf (now (table .entry)))))) ⌝ }
+{
+    if marked {
+        unused_behind(table, a, at)
+    } else {
+        true
+    }
+}
+
+// How many places there are up to the last one in use.
+fn used(table: &[u8]) -> usize
+    requires { ⌜ length (now table) ≡ 512 ⌝ }
+    ensures { λ r. ⌜ (r ≤ 32) × ((i : ℕ) → r ≤ i → i < 32 → blankAt (16 * i) (now (table .entry)) ≡ true) ⌝ }
+{
+    // Never so, by the contract. It tells the compiler the length: no row is tested for room.
+    if table.len() != 512 {
+        return 0;
+    }
+    let mut i = 32;
+    while 0 < i {
+        if blank_at(table, 16 * (i - 1)) {} else {
+            return i;
+        }
+        i -= 1;
+    }
+    0
+}
+
+// A row is compared with those behind it only where one of them has its mark.
+pub(crate) fn survey(s: Settings, table: &[u8]) -> Seen
+    requires { ⌜ length (now table) ≡ 512 ⌝ }
+    ensures { λ r. ⌜ (r .well ≡ (numberedAt 32 0 (now (table .entry)) && wellFormed s (recordsOf (now (table .entry))))) × (r .well ≡ true → (r .associated ≡ associatedOf (recordsOf (now (table .entry)))) × (r .crowd ≡ crowdOf (recordsOf (now (table .entry))))) ⌝ }
+{
+    // As in `used`.
+    if table.len() != 512 {
+        return ill();
+    }
+    if s.fit() {} else {
+        return ill();
+    }
+    let mut marks = [false; 256];
+    let mut associated = 0;
+    let mut joined = 0;
+    let mut associating = 0;
+    let mut i = used(table);
+    while 0 < i {
+        i -= 1;
+        if blank_at(table, 16 * i) {} else {
+            let r = row_at(table, 16 * i);
+            let x = row_standing(s, r);
+            if x.fit {} else {
+                return ill();
+            }
+            let m = mark(r.address);
+            if alone(table, r.address, i, marks[m]) {} else {
+                return ill();
+            }
+            marks[m] = true;
+            associated = first_joined(r, associated);
+            joined = counted(joined, Record::STATE_3 <= r.state);
+            associating = counted(associating, x.associating);
+        }
+    }
+    let crowd = Counts {
+        joined,
+        associating,
+    };
+    Seen {
+        well: sparse(s, crowd),
+        associated,
+        crowd,
+    }
+}
