@@ -16,7 +16,7 @@ use Rattle.peer.specs.Record.{associates, exchangeOf, isFree, underWay}
 use Rattle.peer.specs.Settings.{ap, settingsFit, station}
 use Rattle.peer.specs.declared.settings.Settings.{Settings}
 use Rattle.table.specs.Rows.{recordOf}
-use Rattle.table.specs.declared.survey.Standing.{Standing}
+use Rattle.table.specs.declared.standing.Standing.{Standing}
 
 -- Each number from 0 to 9, and all above.
 pub by-number : (P : ℕ → Type 0) → P 0 → P 1 → P 2 → P 3 → P 4 → P 5 → P 6 → P 7 → P 8 → P 9 → ((n : ℕ) → 9 < n → P n) → (n : ℕ) → P n

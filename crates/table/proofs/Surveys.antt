@@ -9,12 +9,12 @@ use native.Mathlib.Nat.{zero-add}
 use native.Mathlib.Omega.{arith}
 use lib.Dec.{eqb, leb}
 use lib.ListN.{length, drop, getD, set}
-use borrow.Author.Tests.{eqb-true, eqb-false, eq-eqb, not-true}
+use borrow.Author.Tests.{eqb-true, eqb-false, not-true}
 use Rattle.octets.specs.Address.{validOf}
 use Rattle.octets.specs.Pick.{pick}
-use Rattle.octets.specs.Row.{blankAt, noRow, rowAt}
+use Rattle.octets.specs.Row.{blankAt, rowAt}
 use Rattle.octets.specs.declared.row.Row.{Row}
-use Rattle.octets.proofs.Branch.{by-bool, and-left, and-right}
+use Rattle.octets.proofs.Branch.{by-bool}
 use Rattle.octets.proofs.RowTrip.{blank-row, row-blank}
 use Rattle.peer.proofs.Fits.{Fits, both, clash, fits-of, or-right}
 use Rattle.peer.specs.Fit.{placeFits, recordFits}
@@ -22,11 +22,10 @@ use Rattle.peer.specs.Record.{associates, freeOf, isFree, isJoined}
 use Rattle.peer.specs.Settings.{ap as access-point, settingsFit}
 use Rattle.peer.specs.declared.record.Record.{Record}
 use Rattle.peer.specs.declared.settings.Settings.{Settings}
-use Rattle.table.specs.Fit.{apart, crowdOf, distinctOf, sparseOf, wellFormed}
+use Rattle.table.specs.Fit.{apart, crowdOf, sparseOf, wellFormed}
 use Rattle.table.specs.Others.{associatedOf}
 use Rattle.table.specs.Places.{addressesOf, allOf, countOf}
 use Rattle.table.specs.Rows.{numberedAt, recordOf, recordsOf}
-use Rattle.table.specs.declared.fit.Counts.{Counts}
 use Rattle.table.proofs.Loops.{all-end, all-step, and-false, at-most-one, count-end, count-step, left-end, left-step}
 use Rattle.table.proofs.Marks.{Passed, markOf, passed-all, passed-none, passed-one, passed-zero, same-twice}
 use Rattle.table.proofs.OwnRecord.{all-at, wf-distinct, wf-fits}

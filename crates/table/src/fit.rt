@@ -9,7 +9,7 @@ ghost use lib.Dec.{eqb, leb};
 ghost use Prim.Native.Nat.{_+_, _<_};
 ghost use Rattle.octets.specs.Pick.{pick};
 ghost use Rattle.peer.specs.Fit.{placeFits};
-ghost use Rattle.peer.specs.Record.{isJoined, associates};
+ghost use Rattle.peer.specs.Record.{isJoined};
 ghost use Rattle.peer.specs.Settings.{ap, settingsFit};
 ghost use Rattle.table.specs.Places.{allOf, addressesOf};
 ghost use Rattle.table.specs.Others.{associatedOf};

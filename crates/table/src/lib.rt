@@ -12,5 +12,6 @@ pub mod read;
 pub mod receive;
 pub mod rows;
 pub mod seat;
+pub mod standing;
 pub mod step;
 pub mod survey;

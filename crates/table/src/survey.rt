@@ -3,7 +3,7 @@
 use crate::fit::Counts;
 use crate::fit::counted;
 use crate::fit::sparse;
-use octets::address::valid;
+use crate::standing::row_standing;
 use octets::row::Row;
 use octets::row::address_in;
 use octets::row::blank_at;
@@ -17,13 +17,10 @@ ghost use lib.ListN.{length, drop};
 ghost use Prim.Native.Nat.{ℕ, _+_, _*_, _/_, _%_, _<_, _≤_};
 ghost use Rattle.octets.specs.Pick.{pick};
 ghost use Rattle.octets.specs.Row.{blankAt};
-ghost use Rattle.peer.specs.Fit.{exchangeFits, recordFits};
-ghost use Rattle.peer.specs.Record.{associates, exchangeOf, underWay};
-ghost use Rattle.peer.specs.Settings.{ap, station, settingsFit};
 ghost use Rattle.table.specs.Fit.{apart, crowdOf, wellFormed};
 ghost use Rattle.table.specs.Others.{associatedOf};
 ghost use Rattle.table.specs.Places.{addressesOf, allOf};
-ghost use Rattle.table.specs.Rows.{numberedAt, recordOf, recordsOf};
+ghost use Rattle.table.specs.Rows.{numberedAt, recordsOf};
 
 // What the pass finds. Where all is not well formed, the rest says nothing.
 pub struct Seen {
@@ -31,12 +28,6 @@ pub struct Seen {
     // The address of the first record in State 3 or 4, or 0.
     pub associated: u64,
     pub crowd: Counts,
-}
-
-// Whether a row is well formed by itself, and whether it has a (re)association under way.
-pub struct Standing {
-    pub fit: bool,
-    pub associating: bool,
 }
 
 fn ill() -> Seen
@@ -50,97 +41,6 @@ fn ill() -> Seen
             associating: 0,
         },
     }
-}
-
-fn unfit() -> Standing
-    ensures { λ r. ⌜ r ≡ record { fit = false; associating = false } ⌝ }
-{
-    Standing {
-        fit: false,
-        associating: false,
-    }
-}
-
-// An exchange, by its number, at an access point: none, authentication asked, or from State 2 on (re)association asked or awaiting.
-fn ap_standing(e: u8, state: u8, left: u16) -> Standing
-    ensures { λ r. ⌜ (r .fit ≡ (leb e 9 && exchangeFits (exchangeOf e) ap state left)) × (r .fit ≡ true → r .associating ≡ leb 2 (underWay (exchangeOf e))) ⌝ }
-{
-    if left != 0 {
-        return unfit();
-    }
-    if e < 2 {
-        return Standing {
-            fit: true,
-            associating: false,
-        };
-    }
-    if state < Record::STATE_2 {
-        return unfit();
-    }
-    if 6 < e {
-        return unfit();
-    }
-    Standing {
-        fit: e != 4,
-        associating: true,
-    }
-}
-
-// The same at a station: none, authentication sent, or from State 2 on (re)association sent.
-fn station_standing(e: u8, state: u8, left: u16) -> Standing
-    ensures { λ r. ⌜ (r .fit ≡ (leb e 9 && exchangeFits (exchangeOf e) station state left)) × (r .fit ≡ true → r .associating ≡ leb 2 (underWay (exchangeOf e))) ⌝ }
-{
-    if e == 0 {
-        return Standing {
-            fit: left == 0,
-            associating: false,
-        };
-    }
-    if left == 0 {
-        return unfit();
-    }
-    if e == 7 {
-        return Standing {
-            fit: true,
-            associating: false,
-        };
-    }
-    if state < Record::STATE_2 {
-        return unfit();
-    }
-    if e < 8 {
-        return unfit();
-    }
-    Standing {
-        fit: e <= 9,
-        associating: true,
-    }
-}
-
-// A row that is not free.
-fn row_standing(s: Settings, r: Row) -> Standing
-    requires { ⌜ settingsFit s ≡ true ⌝ }
-    ensures { λ x. ⌜ (x .fit ≡ (leb (r .exchange) 9 && recordFits s (recordOf r))) × (x .fit ≡ true → x .associating ≡ associates (recordOf r)) ⌝ }
-{
-    if r.state < Record::STATE_1 {
-        return unfit();
-    }
-    if Record::STATE_4 < r.state {
-        return unfit();
-    }
-    if r.address == s.own {
-        return unfit();
-    }
-    if valid(r.address) {} else {
-        return unfit();
-    }
-    if s.role != Settings::AP {
-        return station_standing(r.exchange, r.state, r.left);
-    }
-    if r.hold != 0 {
-        return unfit();
-    }
-    ap_standing(r.exchange, r.state, r.left)
 }
 
 // The address of the first record in State 3 or 4 from a row on, by that of the rows behind it.

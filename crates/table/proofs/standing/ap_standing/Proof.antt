@@ -1,4 +1,4 @@
--- `table::survey::ap_standing` meets its contract: the numbers that fit, and which of them are (re)associations.
+-- `table::standing::ap_standing` meets its contract: the numbers that fit, and which of them are (re)associations.
 -- Assumes nothing.
 use Rattle.table.proofs.Loops.{and-false, and-true}
 use Rattle.table.proofs.Standings.{ap-timed, ap-untimed, joins, no-standing}
@@ -8,8 +8,8 @@ use lib.Dec.{eqb, leb}
 use mathlib.Core.Bool.{_&&_, not}
 use mathlib.Core.Path.{_∙_, sym}
 use native.Mathlib.Omega.{arith}
-use Rattle.table.proofs.survey.ap_standing.Statement.{statement}
-use Rattle.table.proofs.survey.ap_standing.Tie as tie
+use Rattle.table.proofs.standing.ap_standing.Statement.{statement}
+use Rattle.table.proofs.standing.ap_standing.Tie as tie
 
 unfit-requires : tie.Need-unfit-requires
 unfit-requires c κs = search needs

@@ -1,4 +1,4 @@
--- `table::survey::station_standing` meets its contract: the numbers that fit, and which of them are (re)associations.
+-- `table::standing::station_standing` meets its contract: the numbers that fit, and which of them are (re)associations.
 -- Assumes nothing.
 use Rattle.peer.specs.Record.{exchangeOf}
 use Rattle.table.proofs.Loops.{and-false, and-true}
@@ -9,8 +9,8 @@ use lib.Dec.{leb}
 use mathlib.Core.Bool.{_&&_}
 use mathlib.Core.Path.{_∙_, sym}
 use native.Mathlib.Omega.{arith}
-use Rattle.table.proofs.survey.station_standing.Statement.{statement}
-use Rattle.table.proofs.survey.station_standing.Tie as tie
+use Rattle.table.proofs.standing.station_standing.Statement.{statement}
+use Rattle.table.proofs.standing.station_standing.Tie as tie
 
 returns : tie.Need-returns
 unfolding exchangeOf

@@ -1,4 +1,4 @@
--- `table::survey::row_standing` meets its contract: each answer by the first test that fails, or by the exchange.
+-- `table::standing::row_standing` meets its contract: each answer by the first test that fails, or by the exchange.
 -- Assumes nothing.
 use Rattle.peer.specs.Fit.{holdFits, recordFits}
 use Rattle.peer.specs.Settings.{ap, station}
@@ -9,8 +9,8 @@ use borrow.Author.Needs.{needs}
 use borrow.Author.Tests.{eq-eqb, le-leb, lt-leb, ne-eqb}
 use lib.Dec.{leb}
 use mathlib.Core.Path.{_∙_, refl, sym}
-use Rattle.table.proofs.survey.row_standing.Statement.{statement}
-use Rattle.table.proofs.survey.row_standing.Tie as tie
+use Rattle.table.proofs.standing.row_standing.Statement.{statement}
+use Rattle.table.proofs.standing.row_standing.Tie as tie
 
 unfit-requires : tie.Need-unfit-requires
 unfit-requires c κs = search needs
