@@ -34,7 +34,7 @@
  *
  * What it needs
  *   x86-64 and the calling convention of System V (gcc and clang but on Windows). It uses the SSE registers, which code that is called
- *   from an interrupt has to save. From the linker C's memcpy and memset, nothing else. Stack: PEER_STACK_OCTETS.
+ *   from an interrupt has to save. From the linker nothing, not even memcpy. Stack: PEER_STACK_OCTETS.
  */
 #ifndef PEER_TABLE_H
 #define PEER_TABLE_H

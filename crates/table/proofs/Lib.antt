@@ -25,6 +25,7 @@ pub mod LocalArray
 pub mod Shared
 pub mod RowLaws
 pub mod RowStores
+pub mod Tallies
 pub mod Views
 pub mod Marks
 pub mod Standings

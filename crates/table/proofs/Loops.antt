@@ -10,10 +10,7 @@ use native.Mathlib.Omega.{arith}
 use lib.ListN.{length, take, drop, getD, set, drop-of-length-le}
 use lib.Seq.{drop-cons, take-suc-set, drop-set-lt, take-all}
 use Rattle.octets.specs.Pick.{pick}
-use Rattle.peer.specs.declared.record.Record.{Record}
 use Rattle.table.specs.Places.{firstFrom, allTails, allOf, countOf}
-use Rattle.table.specs.Others.{associatedOf}
-use Rattle.peer.specs.Record.{isJoined, freeOf}
 use Rattle.table.specs.declared.places.Found.{Found}
 use Rattle.table.specs.declared.places.Found.the-variants.{At, Nothing}
 
@@ -69,19 +66,6 @@ module _ {A : Type 0} (f : A → Bool) (t : List A) (i : ℕ) where
   unfolding allTails
   all-end h = left-end (allOf f) t i h
 
-module _ (t : List Record) (i : ℕ) (r : ℕ) (q : associatedOf (drop i t) ≡ r) where
-  pub joined-yes : i < length t → isJoined (getD t i freeOf) ≡ true → getD t i freeOf .address ≡ r
-  unfolding associatedOf
-  joined-yes h e = sym (left-step associatedOf t i freeOf h ∙ rw e) ∙ q
-
-  pub joined-no : i < length t → isJoined (getD t i freeOf) ≡ false → associatedOf (drop (i + 1) t) ≡ r
-  unfolding associatedOf
-  joined-no h e = sym (left-step associatedOf t i freeOf h ∙ rw e) ∙ q
-
-  pub joined-end : length t ≤ i → 0 ≡ r
-  unfolding associatedOf
-  joined-end h = sym (left-end associatedOf t i h) ∙ q
-
 -- a list of which the first i elements are mapped and the others are not: one more is mapped
 pub map-step : {A : Type 0} (f : A → A) (l : List A) (i : ℕ) (d v : A) → i < length l → v ≡ f (getD l i d) → take (i + 1) (set l i v) ++ map f (drop (i + 1) (set l i v)) ≡ take i l ++ map f (drop i l)
 map-step f l i d v h e =
@@ -90,17 +74,6 @@ map-step f l i d v h e =
 -- after the last
 pub map-end : {A : Type 0} (f : A → A) (l m : List A) (i : ℕ) → length l ≤ i → take i l ++ map f (drop i l) ≡ m → l ≡ m
 map-end f l m i h q = sym (take-all i l h) ∙ sym (append-nil (take i l)) ∙ rw (drop-of-length-le l h) at q
-
--- the same into another list: the first i elements of m are those of l mapped
-pub copy-step : {A B : Type 0} (f : A → B) (l : List A) (m : List B) (i : ℕ) (d : A) (v : B) → i < length l → i < length m → v ≡ f (getD l i d) → take (i + 1) (set m i v) ++ map f (drop (i + 1) l) ≡ take i m ++ map f (drop i l)
-copy-step f l m i d v h k e = rw (add-one, take-suc-set m i v k, drop-cons l i d h, append-assoc, e)
-
-pub copy-end : {A B : Type 0} (f : A → B) (l : List A) (m n : List B) (i : ℕ) → length l ≤ i → length m ≤ i → take i m ++ map f (drop i l) ≡ n → m ≡ n
-copy-end f l m n i h k q = sym (take-all i m k) ∙ sym (append-nil (take i m)) ∙ rw (drop-of-length-le l h) at q
-
-pub and-assoc : (a b c : Bool) → ((a && b) && c) ≡ (a && (b && c))
-and-assoc true b c = refl
-and-assoc false b c = refl
 
 pub and-true : (a : Bool) → (a && true) ≡ a
 and-true true = refl

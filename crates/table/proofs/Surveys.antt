@@ -24,13 +24,14 @@ use Rattle.peer.specs.declared.record.Record.{Record}
 use Rattle.peer.specs.declared.settings.Settings.{Settings}
 use Rattle.table.specs.Fit.{apart, crowdOf, sparseOf, wellFormed}
 use Rattle.table.specs.Others.{associatedOf}
-use Rattle.table.specs.Places.{addressesOf, allOf, countOf}
+use Rattle.table.specs.Places.{addressesOf, allOf}
 use Rattle.table.specs.Rows.{numberedAt, recordOf, recordsOf}
-use Rattle.table.proofs.Loops.{all-end, all-step, and-false, at-most-one, count-end, count-step, left-end, left-step}
+use Rattle.table.proofs.Loops.{all-end, all-step, and-false}
 use Rattle.table.proofs.Marks.{Passed, markOf, passed-all, passed-none, passed-one, passed-zero, same-twice}
 use Rattle.table.proofs.OwnRecord.{all-at, wf-distinct, wf-fits}
 use Rattle.table.proofs.RowLaws.{address-at, at-place, blank-free, blank-numbered, length-addresses, length-records, numbered-end, numbered-row, numbered-step}
 use Rattle.table.proofs.Standings.{free-row}
+use Rattle.table.proofs.Tallies.{Tallied, tallied-all, tallied-free, tallied-more, tallied-none}
 
 -- What holds of the places from i on, and of the one before.
 pub one-down : (P : ℕ → Type 0) (i : ℕ) → 0 < i → P (i - 1) → ((j : ℕ) → i ≤ j → j < 32 → P j) → (j : ℕ) → i - 1 ≤ j → j < 32 → P j
@@ -46,78 +47,48 @@ fails false h = refl
 -- xs: the octets of the table. What is found in the places from i on.
 pub record Surveyed (s : Settings) (xs : List ℕ) (marks : List Bool) (associated joined associating i : ℕ) : Type 0 where
   pub long : length xs ≡ 512
-  pub low : i ≤ 32
+  pub tally : Tallied (recordsOf xs) associated joined associating i
   pub fits : allOf (placeFits s) (drop i (recordsOf xs)) ≡ true
   pub numbered : numberedAt (32 - i) (16 * i) xs ≡ true
   pub passed : Passed (addressesOf (recordsOf xs)) marks i
-  pub first : associated ≡ associatedOf (drop i (recordsOf xs))
-  pub joins : joined ≡ countOf isJoined (drop i (recordsOf xs))
-  pub asks : associating ≡ countOf associates (drop i (recordsOf xs))
-  pub few : joined + i ≤ 32
-  pub few′ : associating + i ≤ 32
 
-module _ (s : Settings) (xs : List ℕ) (n : length xs ≡ 512) where
-  over : (i : ℕ) → i ≡ 32 → length (recordsOf xs) ≤ i
-  over i e = rw (length-records 32 0 xs) (omega arith)
-
-  surveyed-none : (marks : List Bool) → length marks ≡ 256 → (i : ℕ) → i ≡ 32 → Surveyed s xs marks 0 0 0 i
-  unfolding associatedOf
-  surveyed-none marks w i e =
-      let end : i ≡ length (addressesOf (recordsOf xs)) = e ∙ sym (length-addresses xs) in
-      record {
-        long = n;
-        low = omega arith;
-        fits = all-end (placeFits s) (recordsOf xs) i (over i e);
-        numbered = numbered-end i xs (omega arith);
-        passed = rw end (passed-none (addressesOf (recordsOf xs)) marks w);
-        first = sym (left-end associatedOf (recordsOf xs) i (over i e));
-        joins = sym (count-end isJoined (recordsOf xs) i (over i e));
-        asks = sym (count-end associates (recordsOf xs) i (over i e));
-        few = omega arith;
-        few′ = omega arith;
-      }
+surveyed-none : (s : Settings) (xs : List ℕ) → length xs ≡ 512 → (marks : List Bool) → length marks ≡ 256 → (i : ℕ) → i ≡ 32 → Surveyed s xs marks 0 0 0 i
+surveyed-none s xs n marks w i e =
+    let over : length (recordsOf xs) ≤ i = rw (length-records 32 0 xs) (omega arith) in
+    let end : i ≡ length (addressesOf (recordsOf xs)) = e ∙ sym (length-addresses xs) in
+    record {
+      long = n;
+      tally = tallied-none (recordsOf xs) (length-records 32 0 xs) i e;
+      fits = all-end (placeFits s) (recordsOf xs) i over;
+      numbered = numbered-end i xs (omega arith);
+      passed = rw end (passed-none (addressesOf (recordsOf xs)) marks w);
+    }
 
 module _ (s : Settings) (xs : List ℕ) (marks : List Bool) (associated joined associating i : ℕ) (v : Surveyed s xs marks associated joined associating i) (z : 0 < i) where
   next : i - 1 + 1 ≡ i
   next = omega arith
 
   inside : i - 1 < 32
-  inside = omega (arith, v .low)
+  inside = omega (arith, v .tally .low)
 
   inside′ : i - 1 < length (recordsOf xs)
   inside′ = rw (length-records 32 0 xs) inside
 
-  -- the record at the place before i, and what a definition says of it and of those behind it
-  module _ (p : Record) (e : p ≡ getD (recordsOf xs) (i - 1) freeOf) where
-    more-fits : placeFits s p ≡ true → allOf (placeFits s) (drop (i - 1) (recordsOf xs)) ≡ true
-    more-fits h = all-step (placeFits s) (recordsOf xs) (i - 1) freeOf inside′ ∙ rw (← e, h, next, v .fits)
-
-    more-first : associatedOf (drop (i - 1) (recordsOf xs)) ≡ pick (isJoined p) (p .address) (associatedOf (drop i (recordsOf xs)))
-    unfolding associatedOf
-    more-first = left-step associatedOf (recordsOf xs) (i - 1) freeOf inside′ ∙ rw (← e, next)
-
-    more-count : (f : Record → Bool) → countOf f (drop (i - 1) (recordsOf xs)) ≡ pick (f p) 1 0 + countOf f (drop i (recordsOf xs))
-    more-count f = count-step f (recordsOf xs) (i - 1) freeOf inside′ ∙ rw (← e, next)
+  more-fits : (p : Record) → p ≡ getD (recordsOf xs) (i - 1) freeOf → placeFits s p ≡ true → allOf (placeFits s) (drop (i - 1) (recordsOf xs)) ≡ true
+  more-fits p e h = all-step (placeFits s) (recordsOf xs) (i - 1) freeOf inside′ ∙ rw (← e, h, next, v .fits)
 
   -- a free place more
   pub surveyed-free : blankAt (16 * (i - 1)) xs ≡ true → Surveyed s xs marks associated joined associating (i - 1)
-  unfolding placeFits isFree isJoined associates
+  unfolding placeFits isFree
   surveyed-free b =
       let e : freeOf ≡ getD (recordsOf xs) (i - 1) freeOf = sym (blank-free (i - 1) xs inside b) in
       let no-address : 0 ≡ getD (addressesOf (recordsOf xs)) (i - 1) 0 = sym (ap (λ r. r .address) (blank-row (16 * (i - 1)) xs b)) ∙ address-at (i - 1) xs inside in
-      let no-joined : countOf isJoined (drop (i - 1) (recordsOf xs)) ≡ 0 + countOf isJoined (drop i (recordsOf xs)) = more-count freeOf e isJoined in
-      let no-asking : countOf associates (drop (i - 1) (recordsOf xs)) ≡ 0 + countOf associates (drop i (recordsOf xs)) = more-count freeOf e associates in
       record {
         long = v .long;
-        low = omega (arith, v .low);
+        tally = tallied-free (recordsOf xs) associated joined associating i (v .tally) z e;
         fits = more-fits freeOf e refl;
         numbered = blank-numbered (i - 1) xs inside b ∙ rw (next, v .numbered);
         passed = passed-zero (addressesOf (recordsOf xs)) marks i (v .passed) z 0 no-address refl;
-        first = v .first ∙ sym (more-first freeOf e);
-        joins = omega (arith, v .joins, no-joined);
-        asks = omega (arith, v .asks, no-asking);
-        few = omega (arith, v .few);
-        few′ = omega (arith, v .few′);
       }
 
   -- a record more: r its row
@@ -157,23 +128,13 @@ module _ (s : Settings) (xs : List ℕ) (marks : List Bool) (associated joined a
             → (associated′ : ℕ) → associated′ ≡ pick (leb 3 (r .state)) (r .address) associated → (joined′ : ℕ) → joined′ ≡ joined + pick (leb 3 (r .state)) 1 0
             → (asks : Bool) → asks ≡ associates (recordOf r) → (associating′ : ℕ) → associating′ ≡ associating + pick asks 1 0 → Surveyed s xs (set marks m true) associated′ joined′ associating′ (i - 1)
         unfolding placeFits isJoined recordOf
-        surveyed-used e associated′ ea joined′ ej asks es associating′ ec =
-            let ec′ : associating′ ≡ associating + pick (associates (recordOf r)) 1 0 = rw es at ec in
-            let one = at-most-one (leb 3 (r .state)) in
-            let one′ = at-most-one (associates (recordOf r)) in
-            let cj : countOf isJoined (drop (i - 1) (recordsOf xs)) ≡ pick (leb 3 (r .state)) 1 0 + countOf isJoined (drop i (recordsOf xs)) = more-count (recordOf r) here isJoined in
-            let ca : countOf associates (drop (i - 1) (recordsOf xs)) ≡ pick (associates (recordOf r)) 1 0 + countOf associates (drop i (recordsOf xs)) = more-count (recordOf r) here associates in
+        surveyed-used e associated′ ea joined′ ej asks es associating′ ek =
             record {
               long = v .long;
-              low = omega (arith, v .low);
+              tally = tallied-more (recordsOf xs) associated joined associating i (v .tally) z (recordOf r) here associated′ ea joined′ ej associating′ (rw es at ek);
               fits = more-fits (recordOf r) here (or-right (isFree (recordOf r)) (recordFits s (recordOf r)) (both (leb (r .exchange) 9) _ fit .1));
               numbered = numbered-step (i - 1) xs inside ∙ rw (← er, both (leb (r .exchange) 9) _ fit .0, next, v .numbered);
               passed = passed-one (addressesOf (recordsOf xs)) marks i (v .passed) z (r .address) at-place′ not-zero m em e;
-              first = ea ∙ rw (v .first) (sym (more-first (recordOf r) here));
-              joins = omega (arith, v .joins, cj, ej);
-              asks = omega (arith, v .asks, ca, ec′);
-              few = omega (arith, v .few, ej, one);
-              few′ = omega (arith, v .few′, ec′, one′);
             }
 
 -- Where every place from i on is free.
@@ -188,16 +149,13 @@ surveyed-from s xs n marks w (suc k) i e b =
 pub surveyed-all : (s : Settings) (xs : List ℕ) (marks : List Bool) (associated joined associating i : ℕ) → Surveyed s xs marks associated joined associating i → i ≤ 0 → settingsFit s ≡ true → (b : Bool)
     → b ≡ (eqb (s .role) access-point || (leb joined 1 && leb associating 1))
     → (b ≡ (numberedAt 32 0 xs && wellFormed s (recordsOf xs))) × (b ≡ true → (associated ≡ associatedOf (recordsOf xs)) × (record { joined = joined; associating = associating } ≡ crowdOf (recordsOf xs)))
-unfolding wellFormed sparseOf crowdOf
+unfolding wellFormed sparseOf
 surveyed-all s xs marks associated joined associating i v h f b e =
     let first : i ≡ 0 = omega arith in
     let number : numberedAt 32 0 xs ≡ true = rw first at (v .numbered) in
     let fits : allOf (placeFits s) (recordsOf xs) ≡ true = rw first at (v .fits) in
-    let j : joined ≡ countOf isJoined (recordsOf xs) = rw first at (v .joins) in
-    let k : associating ≡ countOf associates (recordsOf xs) = rw first at (v .asks) in (
-      e ∙ rw (number, f, fits, ← passed-all (addressesOf (recordsOf xs)) marks i (v .passed) h, j, k),
-      λ w. ((rw first at (v .first)), λ n. record { joined = j n; associating = k n }),
-    )
+    let all = tallied-all (recordsOf xs) associated joined associating i (v .tally) h in
+    (e ∙ rw (number, f, fits, ← passed-all (addressesOf (recordsOf xs)) marks i (v .passed) h, ← all .1), λ w. all)
 
 pub unfit-settings : (s : Settings) (xs : List ℕ) → settingsFit s ≡ false → false ≡ (numberedAt 32 0 xs && wellFormed s (recordsOf xs))
 unfolding wellFormed

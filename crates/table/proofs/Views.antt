@@ -1,133 +1,75 @@
--- What one pass over the table finds, and what follows from it: well-formedness, and what a station's primitives ask.
+-- What one pass over records by value finds, and that well-formedness follows from it.
 -- Assumes nothing.
 use mathlib.Core.Path.{_≡_, refl, sym, _∙_}
-use mathlib.Core.Bool.{Bool, true, false, _&&_, _||_}
-use mathlib.Core.List.{List, _++_, map}
-use Prim.Native.Nat.{ℕ, _+_, _<_, _≤_}
+use mathlib.Core.Bool.{Bool, true, _&&_, _||_}
+use mathlib.Core.List.{List, _∷_}
+use Prim.Native.Nat.{ℕ, _+_, _-_, _<_, _≤_}
 use native.Mathlib.Omega.{arith}
 use lib.Dec.{eqb, leb}
-use lib.ListN.{length, take, drop, getD, set, length-set}
-use borrow.Author.Tests.{eqb-true, eqb-false, eq-eqb, ne-eqb}
-use Rattle.octets.specs.Pick.{pick}
+use lib.ListN.{length, drop, getD, set, length-map, length-set, List·getD-map}
+use lib.Seq.{drop-set-lt, getD-set-same}
 use Rattle.peer.specs.Fit.{placeFits}
-use Rattle.peer.specs.Record.{isJoined, associates, freeOf}
-use Rattle.peer.specs.Settings.{ap, settingsFit}
+use Rattle.peer.specs.Record.{associates, freeOf, isJoined}
+use Rattle.peer.specs.Settings.{ap as access-point, settingsFit}
 use Rattle.peer.specs.declared.settings.Settings.{Settings}
 use Rattle.peer.specs.declared.record.Record.{Record}
-use Rattle.table.specs.Places.{allOf, addressesOf, countOf}
+use Rattle.octets.specs.Pick.{pick}
+use Rattle.table.specs.Places.{allOf, addressesOf}
 use Rattle.table.specs.Others.{associatedOf}
-use Rattle.table.specs.Fit.{countedOf, crowdOf, distinctOf, sparseOf, wellFormed}
-use Rattle.table.specs.declared.fit.Counts.{Counts}
+use Rattle.table.specs.Fit.{crowdOf, distinctOf, sparseOf, wellFormed}
 use Rattle.table.specs.declared.fit.View.{View}
-use Rattle.table.proofs.Loops.{left-step, left-end, count-step, count-end, all-step, all-end, copy-step, copy-end, and-assoc, and-true, at-most-one}
+use Rattle.table.proofs.Loops.{all-end, all-step, left-end, left-step}
+use Rattle.table.proofs.Tallies.{Tallied, tallied-all, tallied-more, tallied-none}
 
 -- what a pass finds
 abbrev pub Sees : Settings → List Record → View → Type 0
 Sees s t v = (v .fit ≡ allOf (placeFits s) t) × (v .crowd ≡ crowdOf t) × (v .associated ≡ associatedOf t) × (v .addresses ≡ addressesOf t)
 
 pub well-of : (s : Settings) (t : List Record) (v : View) → Sees s t v → (b : Bool)
-    → b ≡ (settingsFit s && (v .fit && (distinctOf (v .addresses) && (eqb (s .role) ap || (leb (v .crowd .joined) 1 && leb (v .crowd .associating) 1))))) → b ≡ wellFormed s t
+    → b ≡ (settingsFit s && (v .fit && (distinctOf (v .addresses) && (eqb (s .role) access-point || (leb (v .crowd .joined) 1 && leb (v .crowd .associating) 1))))) → b ≡ wellFormed s t
 unfolding wellFormed sparseOf
 well-of s t v h b e = e ∙ rw (h .0, h .1, h .3)
 
--- The address of the first joined record, one place further: counted joined so far are n, and a is what was found.
-pub first-joined-step : (t : List Record) (i n a : ℕ) → i < length t
-    → pick (eqb n 0) (pick (isJoined (getD t i freeOf)) (getD t i freeOf .address) (associatedOf (drop (i + 1) t))) a ≡ pick (eqb (n + pick (isJoined (getD t i freeOf)) 1 0) 0) (associatedOf (drop (i + 1) t)) (pick (eqb n 0 && isJoined (getD t i freeOf)) (getD t i freeOf .address) a)
-first-joined-step t i n a h = both (eqb n 0) (isJoined (getD t i freeOf)) refl
-  where
-    x : ℕ
-    x = getD t i freeOf .address
-
-    z : ℕ
-    z = associatedOf (drop (i + 1) t)
-
-    both : (b j : Bool) → eqb n 0 ≡ b → pick b (pick j x z) a ≡ pick (eqb (n + pick j 1 0) 0) z (pick (b && j) x a)
-    both true true e = rw (ne-eqb (n + 1) 0 (omega arith))
-    both true false e = rw (eq-eqb (n + 0) 0 (omega (arith, eqb-true n 0 e)))
-    both false true e = rw (ne-eqb (n + 1) 0 (omega arith))
-    both false false e = rw (ne-eqb (n + 0) 0 (omega (arith, eqb-false n 0 e)))
-
--- What a pass has found where i places are passed, and what is still to come.
-pub record Viewed (s : Settings) (t : List Record) (addresses : List ℕ) (fit : Bool) (crowd : Counts) (associated : ℕ) (i : ℕ) : Type 0 where
-  pub low : i ≤ 32
-  pub long : length t ≡ 32
+-- What a pass has found where the places from i on are passed.
+pub record Viewed (s : Settings) (t : List Record) (addresses : List ℕ) (fit : Bool) (associated joined associating i : ℕ) : Type 0 where
+  pub tally : Tallied t associated joined associating i
   pub wide : length addresses ≡ 32
-  pub named : take i addresses ++ map (λ p. p .address) (drop i t) ≡ addressesOf t
-  pub fits : (fit && allOf (placeFits s) (drop i t)) ≡ allOf (placeFits s) t
-  pub few : crowd .joined ≤ i
-  pub few′ : crowd .associating ≤ i
-  pub joined : crowd .joined + countOf isJoined (drop i t) ≡ countOf isJoined t
-  pub associating : crowd .associating + countOf associates (drop i t) ≡ countOf associates t
-  pub first : pick (eqb (crowd .joined) 0) (associatedOf (drop i t)) associated ≡ associatedOf t
-  pub none : eqb (crowd .joined) 0 ≡ true → associated ≡ 0
+  pub named : drop i addresses ≡ drop i (addressesOf t)
+  pub fits : fit ≡ allOf (placeFits s) (drop i t)
 
-pub viewed-none : (s : Settings) (t : List Record) (addresses : List ℕ) → length t ≡ 32 → length addresses ≡ 32 → Viewed s t addresses true (record { joined = 0; associating = 0 }) 0 0
+pub viewed-none : (s : Settings) (t : List Record) (addresses : List ℕ) → length t ≡ 32 → length addresses ≡ 32 → Viewed s t addresses true 0 0 0 32
 viewed-none s t addresses h k =
     record {
-      low = omega arith;
-      long = h;
+      tally = tallied-none t h 32 refl;
       wide = k;
-      named = refl;
-      fits = refl;
-      few = omega arith;
-      few′ = omega arith;
-      joined = omega arith;
-      associating = omega arith;
-      first = refl;
-      none = λ e. refl;
+      named = left-end (λ l. l) addresses 32 (omega (arith, k)) ∙ sym (left-end (λ l. l) (addressesOf t) 32 (rw (length-map t (λ p. p .address)) (omega (arith, h))));
+      fits = sym (all-end (placeFits s) t 32 (omega (arith, h)));
     }
 
-module _ (s : Settings) (t : List Record) (addresses : List ℕ) (fit : Bool) (crowd : Counts) (associated i : ℕ) (v : Viewed s t addresses fit crowd associated i) where
-  -- one place more
-  pub viewed-more : i < 32 → (p : Record) → p ≡ getD t i freeOf → (fit′ : Bool) → fit′ ≡ (fit && placeFits s p) → (crowd′ : Counts) → crowd′ ≡ countedOf crowd p
-      → (associated′ : ℕ) → associated′ ≡ pick (eqb (crowd .joined) 0 && isJoined p) (p .address) associated → Viewed s t (set addresses i (p .address)) fit′ crowd′ associated′ (i + 1)
-  unfolding countedOf associatedOf
-  viewed-more h p ep fit′ ef crowd′ ec associated′ ea =
-      let inside : i < length t = omega (arith, v .long) in
-      let one = at-most-one (isJoined p) in
-      let one′ = at-most-one (associates p) in
-      let j : crowd′ .joined ≡ crowd .joined + pick (isJoined p) 1 0 = rw ec in
-      let k : crowd′ .associating ≡ crowd .associating + pick (associates p) 1 0 = rw ec in
-      let cj : countOf isJoined (drop i t) ≡ pick (isJoined p) 1 0 + countOf isJoined (drop (i + 1) t) = rw ep (count-step isJoined t i freeOf inside) in
-      let ca : countOf associates (drop i t) ≡ pick (associates p) 1 0 + countOf associates (drop (i + 1) t) = rw ep (count-step associates t i freeOf inside) in
+module _ (s : Settings) (t : List Record) (addresses : List ℕ) (fit : Bool) (associated joined associating i : ℕ) (v : Viewed s t addresses fit associated joined associating i) where
+  -- one place more: p its record
+  pub viewed-more : 0 < i → (p : Record) → p ≡ getD t (i - 1) freeOf → (fit′ : Bool) → fit′ ≡ (placeFits s p && fit) → (associated′ : ℕ) → associated′ ≡ pick (isJoined p) (p .address) associated
+      → (joined′ : ℕ) → joined′ ≡ joined + pick (isJoined p) 1 0 → (associating′ : ℕ) → associating′ ≡ associating + pick (associates p) 1 0
+      → Viewed s t (set addresses (i - 1) (p .address)) fit′ associated′ joined′ associating′ (i - 1)
+  viewed-more z p e fit′ ef associated′ ea joined′ ej associating′ ek =
+      let next : i - 1 + 1 ≡ i = omega arith in
+      let inside : i - 1 < length t = omega (arith, v .tally .long, v .tally .low) in
+      let inside′ : i - 1 < length addresses = omega (arith, v .wide, v .tally .low) in
+      let behind : drop i (set addresses (i - 1) (p .address)) ≡ drop i addresses = drop-set-lt i addresses (i - 1) (p .address) (omega arith) in
+      let mine : drop (i - 1) (set addresses (i - 1) (p .address)) ≡ p .address ∷ drop i addresses =
+      left-step (λ l. l) (set addresses (i - 1) (p .address)) (i - 1) 0 (rw (length-set addresses (i - 1) (p .address)) inside′) ∙ rw (next, behind, getD-set-same addresses (i - 1) (p .address) 0 inside′) in
+      let theirs : drop (i - 1) (addressesOf t) ≡ p .address ∷ drop i (addressesOf t) =
+      left-step (λ l. l) (addressesOf t) (i - 1) (freeOf .address) (rw (length-map t (λ p. p .address)) inside) ∙ rw (next, List·getD-map (λ (p : Record). p .address) t (i - 1) freeOf, ← e) in
       record {
-        low = omega arith;
-        long = v .long;
-        wide = length-set addresses i (p .address) ∙ v .wide;
-        named = copy-step (λ q. q .address) t addresses i freeOf (p .address) inside (omega (arith, v .wide)) (rw ep) ∙ v .named;
-        fits = rw ef (and-assoc fit (placeFits s p) (allOf (placeFits s) (drop (i + 1) t)) ∙ rw (all-step (placeFits s) t i freeOf inside, ← ep) at (v .fits));
-        few = omega (arith, v .few);
-        few′ = omega (arith, v .few′);
-        joined = omega (arith, v .joined);
-        associating = omega (arith, v .associating);
-        first = rw (j, ea, ep) (sym (first-joined-step t i (crowd .joined) associated inside) ∙ rw (left-step associatedOf t i freeOf inside) at (v .first));
-        none = λ e. ea ∙ still (isJoined p) refl (eqb-true (crowd′ .joined) 0 e);
+        tally = tallied-more t associated joined associating i (v .tally) z p e associated′ ea joined′ ej associating′ ek;
+        wide = length-set addresses (i - 1) (p .address) ∙ v .wide;
+        named = mine ∙ rw (v .named) (sym theirs);
+        fits = ef ∙ rw (v .fits) (sym (all-step (placeFits s) t (i - 1) freeOf inside ∙ rw (← e, next)));
       }
-    where
-      still : (b : Bool) → isJoined p ≡ b → crowd′ .joined ≡ 0 → pick (eqb (crowd .joined) 0 && isJoined p) (p .address) associated ≡ 0
-      still true q z =
-          let j : crowd′ .joined ≡ crowd .joined + pick (isJoined p) 1 0 = rw ec in
-          let j1 : crowd′ .joined ≡ crowd .joined + 1 = rw q at j in
-          absurd (omega (arith, j1, z))
-      still false q z =
-          let j : crowd′ .joined ≡ crowd .joined + pick (isJoined p) 1 0 = rw ec in
-          let j0 : crowd′ .joined ≡ crowd .joined + 0 = rw q at j in
-          let o : eqb (crowd .joined) 0 ≡ true = eq-eqb (crowd .joined) 0 (omega (arith, j0, z)) in
-          rw (q, o) (v .none o)
 
-  -- after the last
-  pub viewed-all : 32 ≤ i → Sees s t (record { fit = fit; crowd = crowd; associated = associated; addresses = addresses })
-  unfolding crowdOf associatedOf
+  -- after the first
+  pub viewed-all : i ≤ 0 → Sees s t (record { fit = fit; crowd = record { joined = joined; associating = associating }; associated = associated; addresses = addresses })
   viewed-all h =
-      let over : length t ≤ i = omega (arith, v .long) in
-      let j : crowd .joined ≡ countOf isJoined t = omega (arith, v .joined, count-end isJoined t i over) in
-      let k : crowd .associating ≡ countOf associates t = omega (arith, v .associating, count-end associates t i over) in (
-        sym (and-true fit) ∙ rw (all-end (placeFits s) t i over) at (v .fits),
-        (λ n. record { joined = j n; associating = k n }),
-        last (eqb (crowd .joined) 0) refl,
-        copy-end (λ p. p .address) t addresses (addressesOf t) i over (omega (arith, v .wide)) (v .named),
-      )
-    where
-      last : (b : Bool) → eqb (crowd .joined) 0 ≡ b → associated ≡ associatedOf t
-      last true e = v .none e ∙ (rw (left-end associatedOf t i (omega (arith, v .long))) at (rw e at (v .first)))
-      last false e = rw e at (v .first)
+      let first : i ≡ 0 = omega arith in
+      let all = tallied-all t associated joined associating i (v .tally) h in
+      (rw first at (v .fits), all .1, all .0, rw first at (v .named))

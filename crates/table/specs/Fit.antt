@@ -1,10 +1,9 @@
 -- 01, "Well formed": every clause, for settings and table. (That there are 32 records is the table's type.)
 -- Assumes nothing.
-use Prim.Native.Nat.{ℕ, _+_}
+use Prim.Native.Nat.{ℕ}
 use mathlib.Core.Bool.{Bool, not, _&&_, _||_}
 use mathlib.Core.List.{List}
 use lib.Dec.{leb, eqb}
-use Rattle.octets.specs.Pick.{pick}
 use Rattle.peer.specs.Settings.{ap, settingsFit}
 use Rattle.peer.specs.Record.{isJoined, associates}
 use Rattle.peer.specs.Fit.{placeFits}
@@ -25,10 +24,6 @@ distinctOf ads = allTails aloneIn ads
 
 unfoldable pub crowdOf : List Record → Counts
 crowdOf t = record { joined = countOf isJoined t; associating = countOf associates t }
-
--- The counts with one record more.
-unfoldable pub countedOf : Counts → Record → Counts
-countedOf c p = record { joined = c .joined + pick (isJoined p) 1 0; associating = c .associating + pick (associates p) 1 0 }
 
 -- "a station has at most one record in State 3 or 4 and at most one (re)association under way"
 unfoldable pub sparseOf : Settings → List Record → Bool

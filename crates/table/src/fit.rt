@@ -9,11 +9,10 @@ ghost use lib.Dec.{eqb, leb};
 ghost use Prim.Native.Nat.{_+_, _<_};
 ghost use Rattle.octets.specs.Pick.{pick};
 ghost use Rattle.peer.specs.Fit.{placeFits};
-ghost use Rattle.peer.specs.Record.{isJoined};
 ghost use Rattle.peer.specs.Settings.{ap, settingsFit};
 ghost use Rattle.table.specs.Places.{allOf, addressesOf};
 ghost use Rattle.table.specs.Others.{associatedOf};
-ghost use Rattle.table.specs.Fit.{crowdOf, countedOf, distinctOf, wellFormed};
+ghost use Rattle.table.specs.Fit.{crowdOf, distinctOf, wellFormed};
 
 // How many records are in State 3 or 4, and how many (re)associations are under way.
 pub struct Counts {
@@ -45,49 +44,38 @@ pub(crate) fn counted(n: usize, b: bool) -> usize
     if b { n + 1 } else { n }
 }
 
-// The counts with one record more.
-fn crowd_with(c: Counts, p: Record) -> Counts
-    requires { ⌜ (c .joined < 32) × (c .associating < 32) ⌝ }
-    ensures { λ r. ⌜ r ≡ countedOf c p ⌝ }
+// The address of the first record in State 3 or 4 from a place on, by whether the record there is, and by that of the places behind.
+pub(crate) fn first_joined(joined: bool, address: u64, behind: u64) -> u64
+    ensures { λ r. ⌜ r ≡ pick joined address behind ⌝ }
 {
-    Counts {
-        joined: counted(c.joined, p.is_joined()),
-        associating: counted(c.associating, p.is_associating()),
-    }
+    if joined { address } else { behind }
 }
 
-// The address of the first record in State 3 or 4, once one record more is seen.
-fn first_joined(joined: usize, associated: u64, p: Record) -> u64
-    ensures { λ r. ⌜ r ≡ pick (eqb joined 0 && isJoined p) (p .address) associated ⌝ }
-{
-    if joined != 0 {
-        return associated;
-    }
-    if p.is_joined() { p.address } else { associated }
-}
-
+// From the last place to the first.
 pub fn survey(s: Settings, t: [Record; 32]) -> View
     ensures { λ r. ⌜ (r .fit ≡ allOf (placeFits s) t) × (r .crowd ≡ crowdOf t) × (r .associated ≡ associatedOf t) × (r .addresses ≡ addressesOf t) ⌝ }
 {
     let mut addresses = [0u64; 32];
     let mut fit = true;
-    let mut crowd = Counts {
-        joined: 0,
-        associating: 0,
-    };
     let mut associated = 0;
-    let mut i = 0;
-    while i < 32 {
+    let mut joined = 0;
+    let mut associating = 0;
+    let mut i = 32;
+    while 0 < i {
+        i -= 1;
         let p = t[i];
-        fit = both(fit, place_fits(s, p));
-        associated = first_joined(crowd.joined, associated, p);
-        crowd = crowd_with(crowd, p);
+        fit = both(place_fits(s, p), fit);
+        associated = first_joined(p.is_joined(), p.address, associated);
+        joined = counted(joined, p.is_joined());
+        associating = counted(associating, p.is_associating());
         addresses[i] = p.address;
-        i += 1;
     }
     View {
         fit,
-        crowd,
+        crowd: Counts {
+            joined,
+            associating,
+        },
         associated,
         addresses,
     }

@@ -2,6 +2,7 @@
 // station's primitives ask of the whole table.
 use crate::fit::Counts;
 use crate::fit::counted;
+use crate::fit::first_joined;
 use crate::fit::sparse;
 use crate::standing::row_standing;
 use octets::row::Row;
@@ -12,10 +13,8 @@ use peer::record::Record;
 use peer::settings::Settings;
 ghost use mathlib.Core.Path.{_≡_};
 ghost use mathlib.Core.Bool.{true, false, not, _&&_, _||_};
-ghost use lib.Dec.{leb};
 ghost use lib.ListN.{length, drop};
 ghost use Prim.Native.Nat.{ℕ, _+_, _*_, _/_, _%_, _<_, _≤_};
-ghost use Rattle.octets.specs.Pick.{pick};
 ghost use Rattle.octets.specs.Row.{blankAt};
 ghost use Rattle.table.specs.Fit.{apart, crowdOf, wellFormed};
 ghost use Rattle.table.specs.Others.{associatedOf};
@@ -43,15 +42,11 @@ fn ill() -> Seen
     }
 }
 
-// The address of the first record in State 3 or 4 from a row on, by that of the rows behind it.
-fn first_joined(r: Row, associated: u64) -> u64
-    ensures { λ a. ⌜ a ≡ pick (leb 3 (r .state)) (r .address) associated ⌝ }
+// The mark of an address, its last two octets added: addresses that differ in just one of these two have different marks.
+fn mark(a: u64) -> usize
+    ensures { λ r. ⌜ r ≡ (a / 4294967296 + a / 1099511627776) % 256 ⌝ }
 {
-    if Record::STATE_3 <= r.state {
-        r.address
-    } else {
-        associated
-    }
+    ((a / 4294967296 + a / 1099511627776) % 256) as usize
 }
 
 // Whether no place behind one has an address.
@@ -67,13 +62,6 @@ fn unused_behind(table: &[u8], a: u64, at: usize) -> bool
         i += 1;
     }
     true
-}
-
-// The mark of an address. Addresses that differ in the last octet, or in the one before it, have different marks.
-fn mark(a: u64) -> usize
-    ensures { λ r. ⌜ r ≡ (a / 4294967296 + a / 1099511627776) % 256 ⌝ }
-{
-    ((a / 4294967296 + a / 1099511627776) % 256) as usize
 }
 
 // The same, looked up only where it may be otherwise: no place has the address if none has its mark.
@@ -107,7 +95,8 @@ fn used(table: &[u8]) -> usize
     0
 }
 
-// A row is compared with those behind it only where one of them has its mark.
+// Whether settings and table are well formed, and what is counted of the table. A row is compared with those behind it only where one of
+// them has its mark.
 pub(crate) fn survey(s: Settings, table: &[u8]) -> Seen
     requires { ⌜ length (now table) ≡ 512 ⌝ }
     ensures { λ r. ⌜ (r .well ≡ (numberedAt 32 0 (now (table .entry)) && wellFormed s (recordsOf (now (table .entry))))) × (r .well ≡ true → (r .associated ≡ associatedOf (recordsOf (now (table .entry)))) × (r .crowd ≡ crowdOf (recordsOf (now (table .entry))))) ⌝ }
@@ -137,8 +126,9 @@ pub(crate) fn survey(s: Settings, table: &[u8]) -> Seen
                 return ill();
             }
             marks[m] = true;
-            associated = first_joined(r, associated);
-            joined = counted(joined, Record::STATE_3 <= r.state);
+            let on = Record::STATE_3 <= r.state;
+            associated = first_joined(on, r.address, associated);
+            joined = counted(joined, on);
             associating = counted(associating, x.associating);
         }
     }

@@ -41,7 +41,7 @@ sub-i : tie.Need-sub-i Inv-loop μ-loop
 sub-i c = search needs
 
 mul-blank-at : tie.Need-mul-blank-at Inv-loop μ-loop
-mul-blank-at c = omega (arith, c .before .loop .inv .1 .low)
+mul-blank-at c = omega (arith, c .before .loop .inv .1 .tally .low)
 
 blank-at-requires : tie.Need-blank-at-requires Inv-loop μ-loop
 blank-at-requires c κs = search needs
@@ -53,7 +53,7 @@ loop-again : tie.Need-loop-again Inv-loop μ-loop
 loop-again c = (c .before .before .before .loop .inv .0, surveyed-free _ _ _ _ _ _ _ (c .before .before .before .loop .inv .1) (c .before .before .loop-test .taken) (sym (c .before .blank-at .ensures) ∙ c .if3 .taken))
 
 mul-row-at : tie.Need-mul-row-at Inv-loop μ-loop
-mul-row-at c = omega (arith, c .before .before .before .loop .inv .1 .low)
+mul-row-at c = omega (arith, c .before .before .before .loop .inv .1 .tally .low)
 
 row-at-requires : tie.Need-row-at-requires Inv-loop μ-loop
 row-at-requires c κs = search needs
@@ -74,7 +74,7 @@ array-read-alone : tie.Need-array-read-alone Inv-loop μ-loop
 array-read-alone c = omega (arith, c .mark .ensures)
 
 alone-requires : tie.Need-alone-requires Inv-loop μ-loop
-alone-requires c κs = omega (arith, c .before .before .before .before .before .before .before .loop .inv .1 .low, c .before .before .before .before .before .before .loop-test .taken)
+alone-requires c κs = omega (arith, c .before .before .before .before .before .before .before .loop .inv .1 .tally .low, c .before .before .before .before .before .before .loop-test .taken)
 
 ill-requires-4 : tie.Need-ill-requires-4 Inv-loop μ-loop
 ill-requires-4 c κs = search needs
@@ -89,16 +89,16 @@ first-joined-requires : tie.Need-first-joined-requires Inv-loop μ-loop
 first-joined-requires c κs = search needs
 
 counted-requires : tie.Need-counted-requires Inv-loop μ-loop
-counted-requires c κs = omega (arith, c .before .before .before .before .before .before .before .before .before .before .before .loop .inv .1 .few, c .before .before .before .before .before .before .before .before .before .before .loop-test .taken)
+counted-requires c κs = omega (arith, c .before .before .before .before .before .before .before .before .before .before .before .loop .inv .1 .tally .few, c .before .before .before .before .before .before .before .before .before .before .loop-test .taken)
 
 counted-requires-2 : tie.Need-counted-requires-2 Inv-loop μ-loop
-counted-requires-2 c κs = omega (arith, c .before .before .before .before .before .before .before .before .before .before .before .before .loop .inv .1 .few′, c .before .before .before .before .before .before .before .before .before .before .before .loop-test .taken)
+counted-requires-2 c κs = omega (arith, c .before .before .before .before .before .before .before .before .before .before .before .before .loop .inv .1 .tally .few′, c .before .before .before .before .before .before .before .before .before .before .before .loop-test .taken)
 
 loop-less-2 : tie.Need-loop-less-2 Inv-loop μ-loop
 loop-less-2 c = search needs
 
 loop-again-2 : tie.Need-loop-again-2 Inv-loop μ-loop
-loop-again-2 c = (c .before .before .before .before .before .before .before .before .before .before .before .before .before .loop .inv .0, surveyed-used _ _ _ _ _ _ _ (c .before .before .before .before .before .before .before .before .before .before .before .before .before .loop .inv .1) (c .before .before .before .before .before .before .before .before .before .before .before .before .loop-test .taken) _ (c .before .before .before .before .before .before .before .before .before .row-at .ensures) (sym (c .before .before .before .before .before .before .before .before .row-standing .ensures .0) ∙ c .before .before .before .before .before .before .before .if4 .taken) _ (c .before .before .before .before .before .before .mark .ensures) (sym (c .before .before .before .before .before .alone .ensures) ∙ c .before .before .before .before .if5 .taken) _ (c .before .before .before .first-joined .ensures) _ (c .before .counted .ensures) _ (c .before .before .before .before .before .before .before .before .row-standing .ensures .1 (c .before .before .before .before .before .before .before .if4 .taken)) _ (c .counted2 .ensures))
+loop-again-2 c = (c .before .before .before .before .before .before .before .before .before .before .before .before .before .loop .inv .0, surveyed-used _ _ _ _ _ _ _ (c .before .before .before .before .before .before .before .before .before .before .before .before .before .loop .inv .1) (c .before .before .before .before .before .before .before .before .before .before .before .before .loop-test .taken) _ (c .before .before .before .before .before .before .before .before .before .row-at .ensures) (sym (c .before .before .before .before .before .before .before .before .row-standing .ensures .0) ∙ c .before .before .before .before .before .before .before .if4 .taken) _ (c .before .before .before .before .before .before .mark .ensures) (sym (c .before .before .before .before .before .alone .ensures) ∙ c .before .before .before .before .if5 .taken) _ (c .before .before .first-joined .ensures) _ (c .before .counted .ensures) _ (c .before .before .before .before .before .before .before .before .row-standing .ensures .1 (c .before .before .before .before .before .before .before .if4 .taken)) _ (c .counted2 .ensures))
 
 sparse-requires : tie.Need-sparse-requires Inv-loop μ-loop
 sparse-requires c κs = search needs
