@@ -44,38 +44,41 @@ static void send_data(uint64_t from)
     side_receive(&ap, "hears data", frame, sizeof frame);
 }
 
+/* The scanner asks for something, and the AP hears it and answers. Gives how many octets of answer lie in the AP's buffer. */
+static size_t exchange(struct side *scanner, const char *asks, uint8_t request, const char *answers, uint8_t response, uint16_t status)
+{
+    peer_answer a = side_ask(scanner, asks, request, AP_ADDRESS, 0);
+
+    side_receive(&ap, "hears it", scanner->out, a.written);
+    return side_ask(&ap, answers, response, scanner->settings.own, status).written;
+}
+
 /* Open authentication, all four steps. */
 static void authenticate(struct side *scanner)
 {
-    uint64_t address = scanner->settings.own;
-    peer_answer a = side_ask(scanner, "asks to authenticate", PEER_AUTHENTICATE_REQUEST, AP_ADDRESS, 0);
+    size_t answer = exchange(scanner, "asks to authenticate", PEER_AUTHENTICATE_REQUEST,
+                             "answers with success", PEER_AUTHENTICATE_RESPONSE, PEER_STATUS_SUCCESS);
 
-    side_receive(&ap, "hears it", scanner->out, a.written);
-    a = side_ask(&ap, "answers with success", PEER_AUTHENTICATE_RESPONSE, address, PEER_STATUS_SUCCESS);
-    side_receive(scanner, "hears the answer", ap.out, a.written);
+    side_receive(scanner, "hears the answer", ap.out, answer);
 }
 
 /* An association that the AP takes: the scanner counts as joined once its acknowledgement is reported. */
 static void associate(struct side *scanner)
 {
-    uint64_t address = scanner->settings.own;
-    peer_answer a = side_ask(scanner, "asks to associate", PEER_ASSOCIATE_REQUEST, AP_ADDRESS, 0);
+    size_t answer = exchange(scanner, "asks to associate", PEER_ASSOCIATE_REQUEST,
+                             "answers with success", PEER_ASSOCIATE_RESPONSE, PEER_STATUS_SUCCESS);
 
-    side_receive(&ap, "hears it", scanner->out, a.written);
-    a = side_ask(&ap, "answers with success", PEER_ASSOCIATE_RESPONSE, address, PEER_STATUS_SUCCESS);
-    side_receive(scanner, "hears the answer", ap.out, a.written);
-    side_ask(&ap, "is told of the acknowledgement", PEER_TRANSMIT_REPORT, address, PEER_ACKNOWLEDGED);
+    side_receive(scanner, "hears the answer", ap.out, answer);
+    side_ask(&ap, "is told of the acknowledgement", PEER_TRANSMIT_REPORT, scanner->settings.own, PEER_ACKNOWLEDGED);
 }
 
 /* An association that the AP rejects for now, with the time after which the scanner may come back. */
 static void reject(struct side *scanner, uint32_t comeback)
 {
-    uint64_t address = scanner->settings.own;
-    peer_answer a = side_ask(scanner, "asks to associate", PEER_ASSOCIATE_REQUEST, AP_ADDRESS, 0);
+    size_t answer = exchange(scanner, "asks to associate", PEER_ASSOCIATE_REQUEST,
+                             "rejects it for now", PEER_ASSOCIATE_RESPONSE, PEER_STATUS_TRY_LATER);
 
-    side_receive(&ap, "hears it", scanner->out, a.written);
-    a = side_ask(&ap, "rejects it for now", PEER_ASSOCIATE_RESPONSE, address, PEER_STATUS_TRY_LATER);
-    side_receive(scanner, "hears the answer", ap.out, add_comeback(ap.out, a.written, comeback));
+    side_receive(scanner, "hears the answer", ap.out, add_comeback(ap.out, answer, comeback));
     printf("  %-9s must wait %u TU\n", scanner->name, (unsigned)scanner->table[0].hold);
 }
 
