@@ -31,4 +31,5 @@ pub mod Marks
 pub mod Standings
 pub mod Surveys
 pub mod HostLaws
+pub mod LentLaws
 pub mod RecordTrip
