@@ -1,5 +1,6 @@
 pub mod Branch
 pub mod Table
+pub mod Numbers
 pub mod Le
 pub mod Walk
 pub mod Stores
