@@ -1,16 +1,15 @@
 -- What octets, each below 256, bound: a field of n octets is below 256 ^ n (`field-below`), so a comeback is below 2 ^ 32
 -- (`comeback-below`), and each field of what is heard fits (`heard-fits`).
 -- Assumes nothing.
-use Prim.Native.Nat.{ℕ, zero, suc, _+_, _*_, _%_, _<_, _^_}
+use Prim.Native.Nat.{ℕ, zero, suc, _<_, _^_}
 use mathlib.Core.Path.{_≡_, refl}
-use mathlib.Core.Bool.{true, _&&_}
+use mathlib.Core.Bool.{true}
 use mathlib.Core.List.{List, [], _∷_}
 use native.Mathlib.Nat.{pow-suc}
 use native.Mathlib.Omega.{arith}
 use lib.Dec.{ltb, leb, eqb}
 use lib.ListN.{length, take, drop}
 use borrow.Author.Tests.{ltb-true}
-use Rattle.octets.specs.Pick.{pick}
 use Rattle.octets.specs.Field.{le, field, allOctets, typeOf, subtypeOf}
 use Rattle.octets.specs.Element.{walk, wantedAt, comebackOf}
 use Rattle.octets.specs.Heard.{heardOf, managementOf, responseOf, authenticationOf}

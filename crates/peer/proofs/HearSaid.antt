@@ -15,7 +15,6 @@ use Rattle.octets.specs.Class.{classless, classOf, numberOf}
 use Rattle.octets.specs.Field.{allOctets, field, octets, subtypeOf, typeOf, versionOf}
 use Rattle.octets.specs.Frame.{aidField, bodyOf, bytesOf, capabilityOf, headOf}
 use Rattle.octets.specs.Heard.{authenticationOf, heardOf, responseOf}
-use Rattle.octets.specs.Pick.{pick}
 use Rattle.octets.specs.Read.{HeardFits, association-response, authentication, deauthentication, disassociation, reassociation-response}
 use Rattle.octets.specs.declared.class.FrameClass.the-variants as class
 use Rattle.octets.specs.declared.class.FrameClass.{FrameClass}

@@ -7,3 +7,5 @@ pub mod Timeouts
 pub mod Well
 pub mod StepKeeps
 pub mod DiscardLeaves
+pub mod SaidBack
+pub mod SaidExamples
