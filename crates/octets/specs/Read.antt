@@ -9,7 +9,8 @@ use Rattle.octets.specs.declared.frame.Body.the-variants.{Authentication
 use Rattle.octets.specs.declared.heard.Kind.the-variants.{Association, Reassociation}
 use Rattle.octets.specs.declared.heard.Heard.{Heard}
 use Rattle.octets.specs.declared.heard.Heard.the-variants as heard
-use Rattle.octets.specs.declared.element.Comeback.the-variants.{Absent}
+use Rattle.octets.specs.declared.element.Comeback.{Comeback}
+use Rattle.octets.specs.declared.element.Comeback.the-variants.{Given, Absent}
 
 -- A body of the given one's kind, read from octet 24 on.
 abbrev pub bodyLike : Body → List ℕ → Body
@@ -43,6 +44,19 @@ pub record FrameFits (f : Frame) : Type 0 where
   pub address2 : f .address2 < 2 ^ 48
   pub address3 : f .address3 < 2 ^ 48
   pub body : BodyFits (f .body)
+
+-- The same of what is heard.
+abbrev pub ComebackFits : Comeback → Type 0
+ComebackFits (Given tu) = tu < 2 ^ 32
+ComebackFits Absent = Unit
+
+abbrev pub HeardFits : Heard → Type 0
+HeardFits heard.Other = Unit
+HeardFits (heard.Authentication a t s) = (a < 2 ^ 16) × (t < 2 ^ 16) × (s < 2 ^ 16)
+HeardFits (heard.Deauthentication r) = r < 2 ^ 16
+HeardFits (heard.Disassociation r) = r < 2 ^ 16
+HeardFits (heard.Request k a) = a < 2 ^ 48
+HeardFits (heard.Response k s a c) = (s < 2 ^ 16) × (a < 2 ^ 14) × ComebackFits c
 
 -- Which bodies go with which subtype, and what is heard of each.
 pub data Says : ℕ → Body → Heard → Type 0 where
