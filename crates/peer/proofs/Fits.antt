@@ -12,7 +12,7 @@ use Rattle.octets.specs.declared.heard.Kind.the-variants.{Association, Authenti
 use Rattle.octets.specs.declared.heard.Kind.{Kind}
 use Rattle.peer.specs.Fit.{stands, askedFits, awaitingFits, sentFits, exchangeFits, holdFits, recordFits, placeFits}
 use Rattle.peer.specs.Moves.{movedOf}
-use Rattle.peer.specs.Record.{associates, changedOf, isAssociating, isFree, isJoined, underWay, sentOf, askedOf, kindOf}
+use Rattle.peer.specs.Record.{associates, changedOf, isAssociating, isFree, isJoined, isSent, underWay, askedOf}
 use Rattle.peer.specs.Settings.{ap, station, timeFits}
 use Rattle.peer.specs.declared.moves.Move.the-variants as move
 use Rattle.peer.specs.declared.moves.Move.{Move}
@@ -157,7 +157,7 @@ suits-short (Sent k) role state left h =
 
 -- an exchange that was sent is a station's
 pub sent-station :
-    (e : Exchange) (k : Kind) (role state left : ℕ) → exchangeFits e role state left ≡ true → eqb (sentOf e) (kindOf k) ≡ true
+    (e : Exchange) (k : Kind) (role state left : ℕ) → exchangeFits e role state left ≡ true → isSent k e ≡ true
     → eqb role ap ≡ false
 unfolding sentFits
 sent-station None Authentication role state left h q = wrong q

@@ -26,7 +26,7 @@ use Rattle.peer.specs.Filter.{passesOf}
 use Rattle.peer.specs.Fit.{askedFits, holdFits, stands}
 use Rattle.peer.specs.Hear.{actOf, groupHeard, hearOf, isExchange}
 use Rattle.peer.specs.Moves.{movedOf}
-use Rattle.peer.specs.Record.{defaultHold, kindOf, sentOf}
+use Rattle.peer.specs.Record.{defaultHold, isSent}
 use Rattle.peer.specs.Settings.{ap, station}
 use Rattle.peer.specs.Turn.{endedOf, soleOf, turnOf}
 use Rattle.peer.specs.declared.moves.Move.the-variants as move
@@ -75,7 +75,7 @@ module _ (s : Settings) (busy : Bool) (p : Record) (f : Fits s p) where
       (λ g. rw (a, t, g) (requested Authentication 0 a (stood-any (p .state))))
       (λ g. rw (a, t, g) (replied f _ _)))
       (λ t. rw (a, t) (still f _)))
-      (λ a. by-bool (eqb algorithm 0 && (eqb transaction 2 && eqb (sentOf (p .exchange)) 1))
+      (λ a. by-bool (eqb algorithm 0 && (eqb transaction 2 && isSent Authentication (p .exchange)))
       (λ t. rw (a, t) (ended f (answeredMove status) (p .hold) _ _ _ (f .held) (λ b. answered-calm status)))
       (λ t. rw (a, t) (still f _)))
 
@@ -115,7 +115,7 @@ module _ (s : Settings) (busy : Bool) (p : Record) (f : Fits s p) where
       (k : Kind) (status aid : ℕ) (c : Comeback) → (eqb (s .role) ap ≡ false → ComebackFits c)
       → Turns s busy p (responseHeard s p k status aid c)
   unfolding responseHeard acceptedOf rejectedOf
-  response k status aid c u = by-bool (eqb (sentOf (p .exchange)) (kindOf k))
+  response k status aid c u = by-bool (isSent k (p .exchange))
       (λ e.
       let here = sent-station (p .exchange) k (s .role) (p .state) (p .left) (f .suits) e in
       by-bool (eqb status 0)
