@@ -4,3 +4,4 @@ pub mod HearKeeps
 pub mod AskKeeps
 pub mod TickKeeps
 pub mod LawsOfUse
+pub mod ErrorsThatLookRight

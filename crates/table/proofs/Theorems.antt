@@ -7,3 +7,4 @@ pub mod Timeouts
 pub mod Well
 pub mod StepKeeps
 pub mod DiscardLeaves
+pub mod PlacesKept
