@@ -1,3 +1,4 @@
+pub mod Worded
 pub mod Gives
 pub mod MarkedCases
 pub mod RefusedExactly
