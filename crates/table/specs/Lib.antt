@@ -16,3 +16,4 @@ pub mod Marked
 pub mod Exactly
 pub mod Written
 pub mod Order
+pub mod Calls

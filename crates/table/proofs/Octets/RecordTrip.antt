@@ -70,7 +70,7 @@ module _ (row zs : List ℕ) (n : length row ≡ 16) where
   drop-behind : (k j : ℕ) → j ≡ 16 + k → drop j (row ++ zs) ≡ drop k zs
   drop-behind k j e = rw (e, ← n) (drop-append-add row zs k)
 
-  row-behind : (k : ℕ) → rowAt (16 + k) (row ++ zs) ≡ rowAt k zs
+  pub row-behind : (k : ℕ) → rowAt (16 + k) (row ++ zs) ≡ rowAt k zs
   unfolding rowAt
   row-behind k =
       rw (
