@@ -1,4 +1,9 @@
 pub mod Digits
+pub mod Events
 pub mod Lines
+pub mod Moves
+pub mod Outputs
 pub mod Puts
+pub mod Refills
+pub mod TableLines
 pub mod TraceLines
