@@ -5,8 +5,8 @@ use mathlib.Core.Path.{_≡_, ap}
 use mathlib.Core.Bool.{true, false}
 use mathlib.Core.List.{List}
 use Rattle.peer.specs.declared.record.Record.{Record}
-use Rattle.table.specs.declared.answer.Answer.{Answer}
-use Rattle.table.specs.declared.step.Event.{Event}
+use Rattle.table.specs.declared.rules.answer.Answer.{Answer}
+use Rattle.table.specs.declared.rules.event.Event.{Event}
 use Rattle.bench.specs.Line.{lineOf}
 use Rattle.bench.specs.Output.{Output, short, upTo, putOf, putAll}
 use Rattle.bench.specs.Play.{numberAfter}

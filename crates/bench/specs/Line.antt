@@ -5,7 +5,7 @@ use Prim.Native.Nat.{ℕ}
 use mathlib.Core.List.{List, [], _∷_, _++_}
 use lib.Dec.{eqb}
 use Rattle.octets.specs.Pick.{pick}
-use Rattle.table.specs.declared.answer.Answer.{Answer}
+use Rattle.table.specs.declared.rules.answer.Answer.{Answer}
 use Rattle.bench.specs.Text.{tens, fieldOf, letterOf}
 
 -- 'A' admit, 'D' discard, '-' none

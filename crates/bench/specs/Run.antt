@@ -9,8 +9,8 @@ use Rattle.octets.specs.Pick.{pick}
 use Rattle.peer.specs.Record.{freeOf}
 use Rattle.peer.specs.declared.settings.Settings.{Settings}
 use Rattle.table.specs.Step.{stepOf, stepIn}
-use Rattle.table.specs.declared.answer.Stepped.{Stepped}
-use Rattle.table.specs.declared.step.Event.{Event}
+use Rattle.table.specs.declared.rules.answer.Stepped.{Stepped}
+use Rattle.table.specs.declared.rules.event.Event.{Event}
 use Rattle.bench.specs.Line.{lineOf, stopLine}
 use Rattle.bench.specs.Output.{Output, Line, short, upTo, putOf, putAll}
 use Rattle.bench.specs.Play.{zeros, numberAfter}

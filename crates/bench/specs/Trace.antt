@@ -8,7 +8,7 @@ use Rattle.octets.specs.Pick.{pick}
 use Rattle.octets.specs.Field.{octets}
 use Rattle.peer.specs.Record.{exchangeNumber, isFree}
 use Rattle.peer.specs.declared.record.Record.{Record}
-use Rattle.table.specs.declared.answer.Answer.{Answer}
+use Rattle.table.specs.declared.rules.answer.Answer.{Answer}
 use Rattle.bench.specs.Output.{Line, short}
 use Rattle.bench.specs.Text.{tens, fieldOf, hexOf}
 

@@ -4,7 +4,7 @@ use crate::trace::write_octets;
 use crate::trace::write_place;
 use peer::record::Record;
 use peer::turn::Told;
-use table::answer::Answer;
+use table::rules::answer::Answer;
 ghost use mathlib.Core.Path.{_≡_};
 ghost use Rattle.bench.specs.Output.{upTo, putAll};
 ghost use Rattle.bench.specs.Trace.{octetsLines, currentLines, placeLines, tableLines, traceLines};
