@@ -3,6 +3,7 @@ pub mod Events
 pub mod Lines
 pub mod Moves
 pub mod Outputs
+pub mod Pending
 pub mod Puts
 pub mod Refills
 pub mod TableLines

@@ -17,7 +17,7 @@ use Rattle.bench.specs.Play.{zeros, numberAfter}
 use Rattle.bench.specs.Trace.{traceLines}
 use Rattle.bench.specs.declared.run.Run.{Run}
 
--- Before any record: 32 free records, no event, both buffers empty.
+-- "The table starts empty": 32 free records; no event yet, both buffers empty.
 unfoldable pub startOf : Bool → Run
 startOf trace =
     record {

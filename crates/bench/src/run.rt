@@ -15,6 +15,7 @@ use table::rules::event::Event;
 ghost use mathlib.Core.Path.{_≡_};
 ghost use mathlib.Core.Bool.{true};
 ghost use lib.ListN.{length};
+ghost use Rattle.peer.specs.Record.{freeOf};
 ghost use Rattle.bench.specs.Input.{bodyOf};
 ghost use Rattle.bench.specs.Play.{numberAfter};
 ghost use Rattle.bench.specs.Run.{startOf, behindOf, begunOf, eventOf, eventOutput, flushedOf, stoppedIn, leftOf, shiftedOf};
@@ -37,6 +38,13 @@ pub struct Run {
     pub trace: bool,
 }
 
+// A place of the table before any event.
+fn vacant() -> Record
+    ensures { λ p. ⌜ p ≡ freeOf ⌝ }
+{
+    Record::free()
+}
+
 impl Run {
     pub fn new(trace: bool) -> Run
         ensures { λ q. ⌜ q ≡ startOf trace ⌝ }
@@ -49,7 +57,7 @@ impl Run {
                 role: 0,
                 rsna: 0,
             },
-            table: [Record::free(); 32],
+            table: [vacant(); 32],
             number: 0,
             at: 0,
             have: 0,

@@ -85,7 +85,7 @@ returns-2 c =
     let e = c .before .before .before .before .before .before .before .before .before .before .before .shift .ensures .0 in
     let k : length (c .before .before .before .before .before .before .before .before .before .before .before .shift .last .0) ≡ length s = c .before .before .before .before .before .before .before .before .before .before .before .shift .kept .0 in
     let h : c .before .before .before .before .before .before .before .before .before .before .before .shift .result ≤ length (c .before .before .before .before .before .before .before .before .before .before .before .shift .last .0) = omega (arith, left-le (r .at) (r .have) (length s)) in
-    more (c .before .count .result) (refilled r (c .before .count .result) _ _ _ _ (c .behind .ensures) (same-len-mid (c .before .before .before .before .before .before .before .before .before .before .before .shift .result) (length (c .before .before .before .before .before .before .before .before .before .before .before .shift .last .0) - c .before .before .before .before .before .before .before .before .before .before .before .shift .result) (c .before .before .before .before .before .before .before .before .before .before .before .shift .last .0) (c .before .before .before .before .before .before .before .read .last .1 .0) (c .before .before .before .before .before .before .before .read .kept .1 .0) ∙ k) e) (front-kept _ _ _ _ _ h e (c .before .before .before .before .before .before .before .before .before .before .before .shift .ensures .1))
+    more (c .before .count .result) (refilled r (c .before .count .result) _ _ _ _ (c .behind .ensures) (same-len-mid (c .before .before .before .before .before .before .before .before .before .before .before .shift .result) (length (c .before .before .before .before .before .before .before .before .before .before .before .shift .last .0) - c .before .before .before .before .before .before .before .before .before .before .before .shift .result) (c .before .before .before .before .before .before .before .before .before .before .before .shift .last .0) (c .before .before .before .before .before .before .before .read .last .1 .0) (c .before .before .before .before .before .before .before .read .kept .1 .0) ∙ k) e) (front-kept (c .before .before .before .before .before .before .before .before .before .before .before .shift .last .0) _ _ (c .before .before .before .before .before .before .before .before .before .before .before .shift .result) _ h e (c .before .before .before .before .before .before .before .before .before .before .before .shift .ensures .1))
 
 pub refill-spec : {M : Type 1} → statement M
 refill-spec =
