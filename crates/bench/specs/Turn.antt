@@ -1,7 +1,7 @@
 -- A turn of the run: one record, or more input. What is read and whether a write went well is the descriptors' affair; all else is said.
 -- Assumes nothing.
 use Prim.Native.Nat.{ℕ, _≤_}
-use mathlib.Core.Bool.{Bool, true}
+use mathlib.Core.Bool.{Bool, true, false}
 use mathlib.Core.List.{List}
 use mathlib.Core.Path.{_≡_}
 use lib.Dec.{eqb}
@@ -37,7 +37,7 @@ pub data Refilled (xs : List ℕ) (r : Run) (ys : List ℕ) (q : Run) : Type 0 w
 -- A record is not there whole: "a cut record" at the end of the input is a fault, and no octet left there is the input's end.
 pub data Short (xs o : List ℕ) (r : Run) (ys k : List ℕ) (q : Run) : Type 0 where
   ended : r .over ≡ true → q ≡ flushedOf r true → k ≡ pick (eqb (r .at) (r .have)) o (stoppedIn r o) → ys ≡ xs → Short xs o r ys k q
-  wanted : Refilled xs r ys q → k ≡ o → Short xs o r ys k q
+  wanted : r .over ≡ false → Refilled xs r ys q → k ≡ o → Short xs o r ys k q
 
 -- What a turn makes of input buffer xs, output buffer o and run r: ys, k and q, by what stands at the front of the octets ahead.
 abbrev pub Turned : Taken → List ℕ → List ℕ → Run → List ℕ → List ℕ → Run → Type 0

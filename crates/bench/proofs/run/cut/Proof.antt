@@ -35,7 +35,7 @@ same-length-4 : tie.Need-same-length-4
 same-length-4 c = search needs
 
 returns-3 : tie.Need-returns-3
-returns-3 c = wanted (c .before .before .refill .ensures) refl
+returns-3 c = wanted (c .before .before .before .before .before .if1 .left) (c .before .before .refill .ensures) refl
 
 pub cut-spec : {M : Type 1} → statement M
 cut-spec =
