@@ -1,5 +1,6 @@
 pub mod Digits
 pub mod Events
+pub mod LentStep
 pub mod Lines
 pub mod Moves
 pub mod Outputs

@@ -1,5 +1,6 @@
 // The bench program: records on standard input, one line an event on standard output.
 mod input;
+mod lent;
 mod line;
 mod play;
 mod run;

@@ -2,8 +2,10 @@
 use crate::input::Taken;
 use crate::input::record_length;
 use crate::input::take;
+use crate::lent::lent_play;
 use crate::line::write_line;
 use crate::line::write_stop;
+use crate::play::Played;
 use crate::play::play;
 use crate::show::traced;
 use crate::text::has_room;
@@ -17,7 +19,8 @@ ghost use mathlib.Core.Bool.{true};
 ghost use lib.ListN.{length};
 ghost use Rattle.peer.specs.Record.{freeOf};
 ghost use Rattle.bench.specs.Input.{bodyOf};
-ghost use Rattle.bench.specs.Play.{numberAfter};
+ghost use Rattle.table.specs.Step.{stepOf, stepIn};
+ghost use Rattle.bench.specs.Play.{zeros, numberAfter};
 ghost use Rattle.bench.specs.Run.{startOf, behindOf, begunOf, eventOf, eventOutput, flushedOf, stoppedIn, leftOf, shiftedOf};
 ghost use Rattle.bench.specs.Turn.{Refilled, Short, TurnOf, Rounded};
 
@@ -182,13 +185,23 @@ fn counted(n: u64) -> u64
     if n == u64::MAX { n } else { n + 1 }
 }
 
+// An event, played: by value, or under a trace with the records lent.
+fn played(trace: bool, s: Settings, t: [Record; 32], e: Event, frame: &[u8]) -> Played
+    ensures { λ p. ⌜ (p .table ≡ stepOf s t e (now (frame .entry)) 256 .table) × (p .answer ≡ stepOf s t e (now (frame .entry)) 256 .answer) × (p .scratch ≡ stepIn s t e (now (frame .entry)) zeros) ⌝ }
+{
+    if trace {
+        return lent_play(s, t, e, frame);
+    }
+    play(s, t, e, frame)
+}
+
 // An event was taken: it is played, and its line goes to the output. The record has `size` octets, its body is `frame`.
 fn event(output: &mut [u8], r: Run, e: Event, frame: &[u8], size: usize) -> Run
     ensures { λ q. ⌜ (q ≡ eventOf r e (now (frame .entry)) size (now (output .entry))) × (now (output .exit) ≡ eventOutput r e (now (frame .entry)) (now (output .entry)) .octets) ⌝ }
 {
     let s = r.settings;
     let t = r.table;
-    let p = play(s, t, e, frame);
+    let p = played(r.trace, s, t, e, frame);
     let number = counted(r.number);
     let answer = p.answer;
     let table = p.table;

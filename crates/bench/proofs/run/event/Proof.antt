@@ -9,8 +9,8 @@ use mathlib.Core.Path.{_≡_, ap}
 use Rattle.bench.proofs.run.event.Statement.{statement}
 use Rattle.bench.proofs.run.event.Tie as tie
 
-play-requires : tie.Need-play-requires
-play-requires c κs = search needs
+played-requires : tie.Need-played-requires
+played-requires c κs = search needs
 
 counted-requires : tie.Need-counted-requires
 counted-requires c κs = search needs
@@ -30,7 +30,7 @@ same-length c = search needs
 returns : tie.Need-returns
 returns c =
     let a = c .before .before .before .before .before .before .before .before .before .before .before .before .before .before .before .before .before .before .before .args in
-    let p = c .before .before .before .before .before .before .before .before .before .before .before .before .before .before .play .ensures in
+    let p = c .before .before .before .before .before .before .before .before .before .before .before .before .before .before .played .ensures in
     let n = c .before .before .before .before .before .before .before .before .before .before .before .before .before .counted .ensures in
     let h : upTo (c .before .before .traced .last .0) (c .before .before .traced .result) ≡ eventOutput (a .r) (a .e) (now (a .frame)) (now (a .output)) =
     traced-output (a .r) (a .e) (now (a .frame)) (now (a .output)) _ _ n (p .1) _ _ _ _ (p .2) (p .0) (c .before .before .before .before .before .if1 .taken) (c .before .before .before .before .before .before .before .before .write-line .ensures) (c .before .before .traced .ensures) in
@@ -42,7 +42,7 @@ same-length-2 c = search needs
 returns-2 : tie.Need-returns-2
 returns-2 c =
     let a = c .before .before .before .before .before .before .before .before .before .before .before .before .before .before .args in
-    let p = c .before .before .before .before .before .before .before .before .before .play .ensures in
+    let p = c .before .before .before .before .before .before .before .before .before .played .ensures in
     let n = c .before .before .before .before .before .before .before .before .counted .ensures in
     let h : upTo (c .before .before .before .write-line .last .0) (c .before .before .before .write-line .result) ≡ eventOutput (a .r) (a .e) (now (a .frame)) (now (a .output)) =
     plain-output (a .r) (a .e) (now (a .frame)) (now (a .output)) _ _ n (p .1) _ (c .if1 .left) (c .before .before .before .write-line .ensures) in
@@ -52,7 +52,7 @@ pub event-spec : {M : Type 1} → statement M
 event-spec =
     tie.close
     (tie.spec
-    play-requires
+    played-requires
     counted-requires
     behind-requires
     write-line-requires
