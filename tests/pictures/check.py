@@ -1,6 +1,6 @@
 """Plays the scenes of the message charts and checks the pictures.
 
-pictures.py --bench CMD [--trace WORD]
+python3 -m tests.pictures.check --bench CMD [--trace WORD]
 
 Each step's line, the octets written and the peer's hold must be the scene's; in the join the octets
 that one side hears are those that the other wrote. The pictures in docs/pictures must be what
@@ -8,17 +8,13 @@ tools/pictures/make.py makes.
 """
 
 import argparse
-import pathlib
 import shlex
 import sys
 
-import bench_input
-import situations
+from tools import bench_input
+from tools.pictures import make, move_list, scenes
 
-sys.path.append(str(pathlib.Path(__file__).resolve().parent.parent / "tools" / "pictures"))
-import make
-import move_list
-import scenes
+from . import situations
 
 EVERY_SIDE = ("station", "ap")
 

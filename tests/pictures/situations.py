@@ -9,8 +9,9 @@ import collections
 import re
 import subprocess
 
-import bench_input as bench
-from alphabet import LONGEST_STEP, OTHER, OWN, PEER, TIMEOUT, clocks, events
+from tools import bench_input as bench
+
+from .alphabet import LONGEST_STEP, OTHER, OWN, PEER, TIMEOUT, clocks, events
 
 PLACE = re.compile(r"  place \d+ ([0-9a-f]{12}) (\d+) (\d+) (\d+) (\d+)")
 KINDS = {7: "authentication", 8: "association", 9: "reassociation"}

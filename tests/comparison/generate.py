@@ -1,4 +1,4 @@
-"""Writes seeded bench inputs: generate.py SEED COUNT DIR [--kind NAME].
+"""Writes seeded bench inputs: python3 -m tests.comparison.generate SEED COUNT DIR [--kind NAME].
 
 About COUNT events, as many files DIR/0001.in and on, since the settings record comes first
 and only there. The same seed, count and kind give the same octets on any machine.
@@ -8,12 +8,10 @@ import argparse
 import collections
 import pathlib
 
-import bench_input as bench
-import walk_ap
-import walk_damage
-import walk_station
-import walk_sweep
-from walk import Dice, Walk
+from tools import bench_input as bench
+
+from . import walk_ap, walk_damage, walk_station, walk_sweep
+from .walk import Dice, Walk
 
 # Events of one input; a walk or a sweep may make a few more.
 WALK_EVENTS = 1000

@@ -1,9 +1,10 @@
 """Moves of a walk at an access point: peers ask, our own side answers and reports."""
 
-import bench_input as bench
-from walk import (ASKED, ASSOCIATION, AUTHENTICATION, AWAITING, REASSOCIATION, fall_by_frame,
-                  fall_by_primitive, let_time_pass, protect, repeat, send_data)
-from walk_odd import odd_elements, odd_frame, odd_primitive
+from tools import bench_input as bench
+
+from .walk import (ASKED, ASSOCIATION, AUTHENTICATION, AWAITING, REASSOCIATION, fall_by_frame,
+                   fall_by_primitive, let_time_pass, protect, repeat, send_data)
+from .walk_odd import odd_elements, odd_frame, odd_primitive
 
 ANSWERS = {ASSOCIATION: 7, REASSOCIATION: 8}
 REJECTIONS = (1, 12, 17, 30, 65535)

@@ -2,7 +2,7 @@
 
 import re
 
-import names
+from . import names
 
 DOCUMENTS = ("README.md", "docs/DECISIONS.md", "docs/PROMISES.md", "docs/READING.md",
              "docs/TRACE.md")

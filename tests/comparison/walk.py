@@ -6,7 +6,7 @@ third implementation: it may drift, and nothing is ever compared with it.
 
 import random
 
-import bench_input as bench
+from tools import bench_input as bench
 
 AUTHENTICATION, ASSOCIATION, REASSOCIATION = 1, 2, 3
 ASKED, AWAITING, SENT = "asked", "awaiting", "sent"

@@ -1,7 +1,7 @@
 """Runs two programs on generated bench inputs and compares what they print, octet for octet.
 
-compare.py --left CMD --right CMD [--seed S] [--count N] [--kind NAME] [--trace]
-           [--keep DIR]
+python3 -m tests.comparison.compare --left CMD --right CMD [--seed S] [--count N] [--kind NAME]
+                                    [--trace] [--keep DIR]
 
 With --trace the left command gets the argument `trace` and the right `-v`. Ends with 1 where
 any output differs or where some value that a line can hold was never seen.
@@ -18,7 +18,7 @@ import subprocess
 import sys
 import tempfile
 
-import generate
+from . import generate
 
 LINE = re.compile(rb"^(\d+) (\d+) (\S) (\d+) (\d+) (\d+) (\S) (\d+)$", re.MULTILINE)
 EVENT = re.compile(rb"^(\d+) \d+ \S \d+ \d+ \d+ \S \d+$")

@@ -1,7 +1,7 @@
 """Tests of the scenario tool's text: its words, round trips of frames, and what it says of faults.
 
-scenario_words.py: no arguments; the last line is a count. Each fault is played through the command
-itself, so that what a person would see is what is compared.
+python3 -m tests.scenarios.words: no arguments; the last line is a count. Each fault is played
+through the command itself, so that what a person would see is what is compared.
 """
 
 import pathlib
@@ -10,14 +10,13 @@ import subprocess
 import sys
 import tempfile
 
-ROOT = pathlib.Path(__file__).resolve().parent.parent
-sys.path.insert(0, str(ROOT / "tools"))
+from tests.comparison import generate
+from tools import bench_input as bench
+from tools.scenario import answers, frame_words, frames, manual, primitives, read
 
-import bench_input as bench  # noqa: E402
-import generate  # noqa: E402
-from scenario import answers, frame_words, frames, manual, primitives, read  # noqa: E402
-from wrong_scenarios import all_wrong  # noqa: E402
+from .wrong import all_wrong
 
+ROOT = pathlib.Path(__file__).resolve().parents[2]
 OWN, PEER, OTHER = "02:00:00:00:00:01", "02:00:00:00:00:0a", "06:01:02:03:04:05"
 GENERATED = 2000
 ADDRESSES = (PEER, OTHER, "ff:ff:ff:ff:ff:ff", "00:00:00:00:00:00")

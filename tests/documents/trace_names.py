@@ -1,4 +1,5 @@
-"""Checks every name in docs/TRACE.md, and those in the other documents (doc_names.py).
+"""Checks every name in docs/TRACE.md, and those in the other documents (doc_names.py):
+python3 -m tests.documents.trace_names.
 
 A row has a rule, what defines it and what exercises it; how it names things is said at the head of
 docs/TRACE.md. A name must be defined in its file, and a case, edit or test must be there. Every row
@@ -8,8 +9,7 @@ names something in both columns or says `to come`; every case and every edit sta
 import re
 import sys
 
-import doc_names
-import names
+from . import doc_names, names
 
 TRACE = names.ROOT / "docs" / "TRACE.md"
 WORD = re.compile(r"\b(theorem|proof|code|case|edit|test|example)\b|;|`([^`]+)`")

@@ -7,7 +7,7 @@ is 0 or not, the AID is in range or not, a frame is to our own address or to a g
 import collections
 import functools
 
-import bench_input as bench
+from tools import bench_input as bench
 
 OWN = bench.address("02:00:00:00:00:0a")
 PEER = bench.address("02:00:00:00:01:01")

@@ -1,8 +1,9 @@
 """Short bench inputs that are damaged, and walks whose settings are out of range."""
 
-import bench_input as bench
-from walk import OWN, Walk
-from walk_odd import odd_frame, odd_primitive
+from tools import bench_input as bench
+
+from .walk import OWN, Walk
+from .walk_odd import odd_frame, odd_primitive
 
 PEER = bench.address("02:00:00:00:01:00")
 GOOD = dict(role=bench.ACCESS_POINT, own=OWN, rsna=0, authentication_timeout=100,

@@ -1,10 +1,11 @@
 """Moves of a walk at a station: our own side asks, access points answer, holds run out."""
 
-import bench_input as bench
-from walk import (ASSOCIATION, AUTHENTICATION, LONGEST_STEP, REASSOCIATION, SENT, USUAL_HOLD,
-                  fall_by_frame, fall_by_primitive, let_time_pass, protect, repeat,
-                  send_data)
-from walk_odd import odd_elements, odd_frame, odd_primitive
+from tools import bench_input as bench
+
+from .walk import (ASSOCIATION, AUTHENTICATION, LONGEST_STEP, REASSOCIATION, SENT, USUAL_HOLD,
+                   fall_by_frame, fall_by_primitive, let_time_pass, protect, repeat,
+                   send_data)
+from .walk_odd import odd_elements, odd_frame, odd_primitive
 
 RESPONSES = {ASSOCIATION: bench.association_response, REASSOCIATION: bench.reassociation_response}
 AIDS = (0x0001, 0x4001, 0x8001, 0xC001, 2007, 0xC000 | 2007, 2)

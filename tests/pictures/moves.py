@@ -1,6 +1,6 @@
 """Compares docs/pictures/moves.txt with every move that a program makes.
 
-moves.py --bench CMD [--trace WORD]
+python3 -m tests.pictures.moves --bench CMD [--trace WORD]
 
 The moves are derived by trying every event in every situation (situations.py). A move that the
 program makes and the list has not, or the other way round, is named; so is a class of frames that
@@ -8,14 +8,12 @@ passes in a state where the list keeps it out, or the other way round.
 """
 
 import argparse
-import pathlib
 import shlex
 import sys
 
-import situations
+from tools.pictures import move_list
 
-sys.path.append(str(pathlib.Path(__file__).resolve().parent.parent / "tools" / "pictures"))
-import move_list
+from . import situations
 
 ROLES = {number: word for word, number in move_list.ROLES.items()}
 # A kind of frame of each class.

@@ -1,9 +1,10 @@
 """Sweeps: one peer is brought into a given state again and again, and every type and subtype to
 every sort of Address 1 at its boundary lengths, then every primitive and code, is tried there."""
 
-import bench_input as bench
-from walk import FOREIGN, GROUPS, LONGEST_STEP, Walk
-from walk_odd import FILLS, LEAST_MANAGEMENT, least_length
+from tools import bench_input as bench
+
+from .walk import FOREIGN, GROUPS, LONGEST_STEP, Walk
+from .walk_odd import FILLS, LEAST_MANAGEMENT, least_length
 
 # Each sweep's role, RSNA and state; State 3 is reached where RSNA is required.
 SWEEPS = tuple((role, rsna, state) for role in (bench.ACCESS_POINT, bench.STATION)

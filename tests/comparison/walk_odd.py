@@ -1,7 +1,8 @@
 """Odd events of a walk: any type, subtype and length, bad addresses, bad codes, odd elements."""
 
-import bench_input as bench
-from walk import FOREIGN, GROUPS
+from tools import bench_input as bench
+
+from .walk import FOREIGN, GROUPS
 
 STRANGERS = (bench.address("02:00:00:00:02:01"), bench.address("fe:ff:ff:ff:ff:ff"))
 LEAST_MANAGEMENT = {bench.AUTHENTICATION: 30, bench.ASSOCIATION_REQUEST: 28,

@@ -1,4 +1,4 @@
-"""Plays the examples: scenarios.py --bench CMD --independent CMD.
+"""Plays the examples: python3 -m tests.scenarios.examples --bench CMD --independent CMD.
 
 For each examples/NAME.scenario: what the tool tells is examples/NAME.out, through the command itself and
 from the trace of each of the two programs; both print the same plain lines. The nine steps are the octets
@@ -13,13 +13,10 @@ import subprocess
 import sys
 import textwrap
 
-from cases import difference
+from tests.cases import difference
+from tools.scenario import answers, read, show
 
-ROOT = pathlib.Path(__file__).resolve().parent.parent
-sys.path.insert(0, str(ROOT / "tools"))
-
-from scenario import answers, read, show  # noqa: E402
-
+ROOT = pathlib.Path(__file__).resolve().parents[2]
 EXAMPLES = ROOT / "examples"
 # Settings, an event, its refusal and what is told of that.
 GOOD = "ap own=02:00:00:00:00:01"

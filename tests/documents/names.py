@@ -4,7 +4,7 @@ import functools
 import pathlib
 import re
 
-ROOT = pathlib.Path(__file__).resolve().parent.parent
+ROOT = pathlib.Path(__file__).resolve().parents[2]
 CRATES = ("octets", "peer", "table", "bench")
 TOKEN = re.compile(r"`([^`\n]+)`")
 SIGNATURE = r"^\s*(?:(?:abbrev|unfoldable|pub)\s+)*(?:(?:record|data)\s+{0}(?=[\s(]|$)|{0}\s+:)"
