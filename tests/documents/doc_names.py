@@ -20,7 +20,7 @@ SNAKE = re.compile(r"[a-z]+(?:_[a-z0-9]+)+")
 KEBAB = re.compile(r"[a-z]+(?:-[a-z0-9]+)+")
 MINUTES = re.compile(r"\| (`.*`) \| (\d+) \|")
 IN_ALL = re.compile(r"In all: (\d+) minutes")
-MODULE = re.compile(r"\| \*\*`(\w+)`\*\* \| ([^|]*)\|")
+MODULE = re.compile(r"\| \*\*`([\w:]+)`\*\* \| ([^|]*)\|")
 FUNCTION = re.compile(r"\| `(?:\w+::)?(\w+)\(")
 GIVES = re.compile(r"(?:gives|result|buffer|is) `(\w+)")
 SPEC = re.compile(r"`(?:(\w+)/)?specs/(\w+)\.antt`")
@@ -96,7 +96,7 @@ def promised(text):
 
 
 def function_row(crate, module, heads, line):
-    code = names.ROOT / "crates" / crate / "src" / f"{module}.rt"
+    code = names.ROOT / "crates" / crate / "src" / (module.replace("::", "/") + ".rt")
     yield from names.missing_names(code, [FUNCTION.match(line).group(1)])
     specs = [names.ROOT / "crates" / (other or crate) / "specs" / f"{name}.antt"
              for other, name in heads + SPEC.findall(line)]

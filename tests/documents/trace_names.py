@@ -13,7 +13,7 @@ from . import doc_names, names
 
 TRACE = names.ROOT / "docs" / "TRACE.md"
 WORD = re.compile(r"\b(theorem|proof|code|case|edit|test|example)\b|;|`([^`]+)`")
-REFERENCE = re.compile(r"(\w+)/(\w+): (.+)")
+REFERENCE = re.compile(r"(\w+)/([\w/]+): (.+)")
 FOLDERS = {"definition": ("specs", "antt"), "example": ("specs", "antt"),
            "theorem": ("proofs", "antt"), "code": ("src", "rt")}
 TO_COME = "to come"

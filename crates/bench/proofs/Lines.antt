@@ -3,7 +3,7 @@
 use Prim.Native.Nat.{ℕ, _≤_}
 use native.Mathlib.Omega.{arith}
 use lib.ListN.{length, length-append}
-use Rattle.table.specs.declared.answer.Answer.{Answer}
+use Rattle.table.specs.declared.rules.answer.Answer.{Answer}
 use Rattle.bench.specs.Line.{frontOf, backOf}
 use Rattle.bench.proofs.Digits.{field-length, tens-length}
 

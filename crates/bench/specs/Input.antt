@@ -8,8 +8,8 @@ use lib.ListN.{length}
 use Rattle.octets.specs.Pick.{pick}
 use Rattle.octets.specs.Field.{field}
 use Rattle.peer.specs.declared.settings.Settings.{Settings}
-use Rattle.table.specs.declared.step.Event.{Event}
-use Rattle.table.specs.declared.step.Event.the-variants.{Frame, Ask, Clock}
+use Rattle.table.specs.declared.rules.event.Event.{Event}
+use Rattle.table.specs.declared.rules.event.Event.the-variants.{Frame, Ask, Clock}
 use Rattle.bench.specs.declared.input.Taken.{Taken}
 use Rattle.bench.specs.declared.input.Taken.the-variants.{Cut, Fault, First, Next}
 

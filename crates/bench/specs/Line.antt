@@ -6,7 +6,7 @@ use mathlib.Core.List.{List, [], _∷_, _++_}
 use lib.Dec.{ltb, eqb}
 use lib.ListN.{length, drop}
 use Rattle.octets.specs.Pick.{pick}
-use Rattle.table.specs.declared.answer.Answer.{Answer}
+use Rattle.table.specs.declared.rules.answer.Answer.{Answer}
 use Rattle.bench.specs.Text.{tens, fieldOf, letterOf}
 
 -- 'A' admit, 'D' discard, '-' none

@@ -3,7 +3,7 @@ use octets::field::address_at;
 use octets::field::octet_at;
 use octets::field::u16_at;
 use peer::settings::Settings;
-use table::step::Event;
+use table::rules::event::Event;
 ghost use mathlib.Core.Path.{_≡_};
 ghost use Prim.Native.Nat.{_+_};
 ghost use Rattle.octets.specs.Field.{field};

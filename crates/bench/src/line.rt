@@ -3,7 +3,7 @@ use crate::text::put_field;
 use crate::text::put_letter;
 use crate::text::put_octet;
 use crate::text::put_tens;
-use table::answer::Answer;
+use table::rules::answer::Answer;
 ghost use mathlib.Core.Path.{_≡_};
 ghost use Prim.Native.Nat.{_+_, _≤_};
 ghost use lib.ListN.{length};

@@ -1,9 +1,9 @@
 // One event, played on the table with a scratch of 256 zero octets.
 use peer::record::Record;
 use peer::settings::Settings;
-use table::answer::Answer;
-use table::step::Event;
-use table::step::step;
+use table::records::step::step;
+use table::rules::answer::Answer;
+use table::rules::event::Event;
 ghost use mathlib.Core.Path.{_≡_};
 ghost use Rattle.table.specs.Step.{stepOf, stepIn};
 ghost use Rattle.bench.specs.Play.{zeros};

@@ -11,7 +11,7 @@ use libc::STDIN_FILENO;
 use libc::STDOUT_FILENO;
 use peer::record::Record;
 use peer::settings::Settings;
-use table::step::Event;
+use table::rules::event::Event;
 ghost use mathlib.Core.Path.{_≡_};
 ghost use Prim.Native.Nat.{_≤_};
 ghost use lib.ListN.{length};

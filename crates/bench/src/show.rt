@@ -4,7 +4,7 @@ use crate::trace::write_octets;
 use crate::trace::write_place;
 use peer::record::Record;
 use peer::turn::Told;
-use table::answer::Answer;
+use table::rules::answer::Answer;
 ghost use Prim.Native.Nat.{_≤_};
 
 // Where the next line goes once n octets were written at `out`, in a buffer of `len`.

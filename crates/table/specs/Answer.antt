@@ -7,9 +7,9 @@ use Rattle.peer.specs.declared.record.Record.{Record}
 use Rattle.peer.specs.declared.reply.Reply.{Reply}
 use Rattle.peer.specs.declared.reply.Reply.the-variants.{Silent, Send}
 use Rattle.peer.specs.declared.turn.Turn.{Turn}
-use Rattle.table.specs.declared.answer.Answer.{Answer}
-use Rattle.table.specs.declared.answer.Met.{Met}
-use Rattle.table.specs.declared.answer.Stepped.{Stepped}
+use Rattle.table.specs.declared.rules.answer.Answer.{Answer}
+use Rattle.table.specs.declared.rules.answer.Met.{Met}
+use Rattle.table.specs.declared.rules.answer.Stepped.{Stepped}
 
 abbrev pub refusalAnswer : ℕ → Answer
 refusalAnswer n =

@@ -16,8 +16,8 @@ use Rattle.table.specs.Fit.{wellFormed}
 use Rattle.table.specs.Others.{othersOf}
 use Rattle.table.specs.Refusals.{firstOf, unless}
 use Rattle.table.specs.Seat.{peerOf, aidOf, turnIn}
-use Rattle.table.specs.declared.places.Found.{Found}
-use Rattle.table.specs.declared.answer.Met.{Met}
+use Rattle.table.specs.declared.rules.seat.Found.{Found}
+use Rattle.table.specs.declared.rules.answer.Met.{Met}
 
 -- 3: not "unknown primitive; peer address invalid or own; code not allowed"
 unfoldable pub mayAsk : Settings → ℕ → ℕ → ℕ → Bool

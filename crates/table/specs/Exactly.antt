@@ -22,9 +22,9 @@ use Rattle.table.specs.Seat.{peerOf}
 use Rattle.table.specs.Read.{forUs}
 use Rattle.table.specs.Ask.{refusalsAt}
 use Rattle.table.specs.Pass.{passRefusals}
-use Rattle.table.specs.declared.answer.Stepped.{Stepped}
-use Rattle.table.specs.declared.step.Event.{Event}
-use Rattle.table.specs.declared.step.Event.the-variants as event
+use Rattle.table.specs.declared.rules.answer.Stepped.{Stepped}
+use Rattle.table.specs.declared.rules.event.Event.{Event}
+use Rattle.table.specs.declared.rules.event.Event.the-variants as event
 
 -- None of the conditions holds.
 abbrev pub NoneHolds : List (ℕ × Bool) → Type 0

@@ -10,7 +10,7 @@ use Rattle.peer.specs.Fit.{placeFits}
 use Rattle.peer.specs.declared.settings.Settings.{Settings}
 use Rattle.peer.specs.declared.record.Record.{Record}
 use Rattle.table.specs.Places.{allTails, allOf, countOf, addressesOf}
-use Rattle.table.specs.declared.fit.Counts.{Counts}
+use Rattle.table.specs.declared.rules.others.Counts.{Counts}
 
 -- "outside free places no address is .. in two places": an address is 0, or in no later place
 abbrev pub apart : ℕ → ℕ → Bool

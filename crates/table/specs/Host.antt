@@ -9,8 +9,8 @@ use Rattle.peer.specs.declared.settings.Settings.{Settings}
 use Rattle.table.specs.Lent.{malformedOf}
 use Rattle.table.specs.Rows.{recordsOf, octetsOf, isTable}
 use Rattle.table.specs.Step.{stepOf, stepIn}
-use Rattle.table.specs.declared.answer.Answer.{Answer}
-use Rattle.table.specs.declared.step.Event.{Event}
+use Rattle.table.specs.declared.rules.answer.Answer.{Answer}
+use Rattle.table.specs.declared.rules.event.Event.{Event}
 
 -- The octets xs lent, the frame fs and the buffer l: the answer, the octets after the event, and the buffer.
 unfoldable pub hostAnswer : List ℕ → Settings → Event → List ℕ → List ℕ → Answer

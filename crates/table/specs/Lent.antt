@@ -11,9 +11,9 @@ use Rattle.peer.specs.declared.settings.Settings.{Settings}
 use Rattle.peer.specs.declared.record.Record.{Record}
 use Rattle.table.specs.Answer.{refusalAnswer}
 use Rattle.table.specs.Step.{stepOf, stepIn}
-use Rattle.table.specs.declared.answer.Answer.{Answer}
-use Rattle.table.specs.declared.step.Event.{Event}
-use Rattle.table.specs.declared.step.Event.the-variants as event
+use Rattle.table.specs.declared.rules.answer.Answer.{Answer}
+use Rattle.table.specs.declared.rules.event.Event.{Event}
+use Rattle.table.specs.declared.rules.event.Event.the-variants as event
 
 -- 1: the buffer is under 34 octets, "(256 for a clock step)".
 abbrev pub roomOf : Event → ℕ

@@ -1,5 +1,5 @@
 -- 01, "Either side of each line": "Marked for proof are the nine steps above and: .. buffer 33 refused, 34 taken."
--- One table of cases, `marked`, and one test of a case, `comesOut`. proofs/MarkedCases.antt proves `allOf comesOut marked ≡ true`.
+-- One table of cases, `marked`, and one test of a case, `comesOut`. proofs/Theorems/MarkedCases.antt proves `allOf comesOut marked ≡ true`.
 -- Assumes nothing.
 use Prim.Native.Nat.{ℕ, _-_}
 use mathlib.Core.Bool.{Bool, true, false, _&&_}
@@ -13,9 +13,9 @@ use Rattle.peer.specs.declared.record.Exchange.the-variants as exchange
 use Rattle.peer.specs.declared.record.Record.{Record}
 use Rattle.peer.specs.declared.settings.Settings.{Settings}
 use Rattle.table.specs.Step.{stepIn, stepOf}
-use Rattle.table.specs.declared.answer.Answer.{Answer}
-use Rattle.table.specs.declared.step.Event.{Event}
-use Rattle.table.specs.declared.step.Event.the-variants as event
+use Rattle.table.specs.declared.rules.answer.Answer.{Answer}
+use Rattle.table.specs.declared.rules.event.Event.{Event}
+use Rattle.table.specs.declared.rules.event.Event.the-variants as event
 
 -- A line of a case: an event with its frame's octets (none where it is no frame) and a buffer of zeros of a length;
 -- then what must come out: the fields of the answer, and the octets at the buffer's front, after which it stays zero.

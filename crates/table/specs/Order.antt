@@ -1,6 +1,6 @@
 -- Demand 3: a run over a list of events, what it is to move the events about, and that the outcome is the same.
 -- The first part is for any rules: R is a record of the table, E an event with the buffer that it is handed, A what it gets. The second is
--- the access point's rules. proofs/DemandThree.antt proves `demand-3`.
+-- the access point's rules. proofs/Order/DemandThree.antt proves `demand-3`.
 -- Assumes nothing.
 use Prim.Native.Nat.{ℕ, _<_}
 use mathlib.Core.Path.{_≡_}
@@ -20,11 +20,11 @@ use Rattle.table.specs.Fit.{wellFormed}
 use Rattle.table.specs.Read.{readOf}
 use Rattle.table.specs.Ask.{mayAsk}
 use Rattle.table.specs.Step.{stepOf, stepIn}
-use Rattle.table.specs.declared.read.Reading.{Reading}
-use Rattle.table.specs.declared.read.Reading.the-variants.{Refused, Discarded, Admitted, From}
-use Rattle.table.specs.declared.answer.Answer.{Answer}
-use Rattle.table.specs.declared.step.Event.{Event}
-use Rattle.table.specs.declared.step.Event.the-variants as event
+use Rattle.table.specs.declared.rules.read.Reading.{Reading}
+use Rattle.table.specs.declared.rules.read.Reading.the-variants.{Refused, Discarded, Admitted, From}
+use Rattle.table.specs.declared.rules.answer.Answer.{Answer}
+use Rattle.table.specs.declared.rules.event.Event.{Event}
+use Rattle.table.specs.declared.rules.event.Event.the-variants as event
 
 module _ {R E A : Type 0} (step : List R → E → List R × A) where
   -- The table after all events, one after the other.

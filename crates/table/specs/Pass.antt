@@ -14,8 +14,8 @@ use Rattle.peer.specs.declared.record.Record.{Record}
 use Rattle.table.specs.Fit.{wellFormed}
 use Rattle.table.specs.Refusals.{firstOf}
 use Rattle.table.specs.Answer.{refusalAnswer, countAnswer}
-use Rattle.table.specs.declared.answer.Stepped.{Stepped}
-use Rattle.table.specs.declared.pass.Clocked.{Clocked}
+use Rattle.table.specs.declared.rules.answer.Stepped.{Stepped}
+use Rattle.table.specs.declared.records.pass.Clocked.{Clocked}
 
 -- The report of a place, or nothing where no exchange ended there.
 unfoldable pub reportFor : ℕ → ℕ → ℕ → List ℕ

@@ -6,8 +6,8 @@ use mathlib.Core.List.{List, [], _∷_, map}
 use lib.Dec.{eqb}
 use Rattle.octets.specs.Pick.{pick}
 use Rattle.peer.specs.declared.record.Record.{Record}
-use Rattle.table.specs.declared.places.Found.{Found}
-use Rattle.table.specs.declared.places.Found.the-variants.{At, Nothing}
+use Rattle.table.specs.declared.rules.seat.Found.{Found}
+use Rattle.table.specs.declared.rules.seat.Found.the-variants.{At, Nothing}
 
 -- The place of the first element that passes a test, counted from n.
 unfoldable pub firstFrom : {A : Type 0} → (A → Bool) → ℕ → List A → Found

@@ -12,8 +12,8 @@ use Rattle.octets.specs.Heard.{heardOf}
 use Rattle.octets.specs.Shape.{shapeOf}
 use Rattle.octets.specs.declared.shape.Shape.{Shape}
 use Rattle.octets.specs.declared.shape.Shape.the-variants.{Misfit, Classless, Bare, Full}
-use Rattle.table.specs.declared.read.Reading.{Reading}
-use Rattle.table.specs.declared.read.Reading.the-variants.{Refused, Discarded, Admitted, From}
+use Rattle.table.specs.declared.rules.read.Reading.{Reading}
+use Rattle.table.specs.declared.rules.read.Reading.the-variants.{Refused, Discarded, Admitted, From}
 
 -- "Address 1 is neither own nor a group address"
 unfoldable pub forUs : ℕ → ℕ → Bool

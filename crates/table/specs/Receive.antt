@@ -18,9 +18,9 @@ use Rattle.table.specs.Fit.{wellFormed}
 use Rattle.table.specs.Read.{readOf}
 use Rattle.table.specs.Answer.{verdictAnswer, settledOf, refusedOf}
 use Rattle.table.specs.Seat.{peerOf, turnIn}
-use Rattle.table.specs.declared.read.Reading.{Reading}
-use Rattle.table.specs.declared.read.Reading.the-variants.{Refused, Discarded, Admitted, From}
-use Rattle.table.specs.declared.answer.Met.{Met}
+use Rattle.table.specs.declared.rules.read.Reading.{Reading}
+use Rattle.table.specs.declared.rules.read.Reading.the-variants.{Refused, Discarded, Admitted, From}
+use Rattle.table.specs.declared.rules.answer.Met.{Met}
 
 -- 6. to 8., with the table's addresses: the peer's turn; of an authentication that needs a record where no place is free, "reply status 17".
 unfoldable pub heardFrom : Settings → List Record → List ℕ → ℕ → Bool → FrameClass → Heard → Met

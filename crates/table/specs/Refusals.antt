@@ -7,7 +7,7 @@ use lib.Dec.{eqb}
 use Rattle.octets.specs.Pick.{pick}
 use Rattle.peer.specs.declared.record.Record.{Record}
 use Rattle.table.specs.Answer.{refusedOf}
-use Rattle.table.specs.declared.answer.Met.{Met}
+use Rattle.table.specs.declared.rules.answer.Met.{Met}
 
 -- The number of the first condition that holds, of a list of numbers and conditions; "0 means done".
 unfoldable pub firstOf : List (ℕ × Bool) → ℕ

@@ -12,9 +12,9 @@ use Rattle.peer.specs.declared.record.Record.{Record}
 use Rattle.peer.specs.declared.turn.Turn.{Turn}
 use Rattle.table.specs.Places.{onFound}
 use Rattle.table.specs.Answer.{turnAnswer}
-use Rattle.table.specs.declared.places.Found.{Found}
-use Rattle.table.specs.declared.answer.Met.{Met}
-use Rattle.table.specs.declared.seat.Change.{Change}
+use Rattle.table.specs.declared.rules.seat.Found.{Found}
+use Rattle.table.specs.declared.rules.answer.Met.{Met}
+use Rattle.table.specs.declared.rules.seat.Change.{Change}
 
 -- A table with a change: a record stored at a place, after every record in State 3 or 4 was put to State 2 where it is so.
 unfoldable pub metOf : List Record → Change → Met

@@ -9,9 +9,9 @@ use Rattle.table.specs.Answer.{saidIn, steppedOf}
 use Rattle.table.specs.Receive.{receivedOf}
 use Rattle.table.specs.Ask.{askedOf}
 use Rattle.table.specs.Pass.{passedOf, passedIn}
-use Rattle.table.specs.declared.answer.Stepped.{Stepped}
-use Rattle.table.specs.declared.step.Event.{Event}
-use Rattle.table.specs.declared.step.Event.the-variants as event
+use Rattle.table.specs.declared.rules.answer.Stepped.{Stepped}
+use Rattle.table.specs.declared.rules.event.Event.{Event}
+use Rattle.table.specs.declared.rules.event.Event.the-variants as event
 
 -- Table and answer, lent a buffer of n octets.
 abbrev pub stepOf : Settings → List Record → Event → List ℕ → ℕ → Stepped

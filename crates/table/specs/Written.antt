@@ -17,8 +17,8 @@ use Rattle.table.specs.Refusals.{firstOf}
 use Rattle.table.specs.Receive.{receivedOf}
 use Rattle.table.specs.Ask.{askedOf}
 use Rattle.table.specs.Pass.{passRefusals, reportsOf}
-use Rattle.table.specs.declared.step.Event.{Event}
-use Rattle.table.specs.declared.step.Event.the-variants as event
+use Rattle.table.specs.declared.rules.event.Event.{Event}
+use Rattle.table.specs.declared.rules.event.Event.the-variants as event
 
 -- The frame replied, in octets.
 abbrev pub replyBytes : Reply → List ℕ

@@ -2,7 +2,7 @@
 -- Assumes nothing.
 use borrow.Author.Needs.{needs}
 use mathlib.Core.Path.{ap}
-use Rattle.table.specs.declared.answer.Stepped.{Stepped}
+use Rattle.table.specs.declared.rules.answer.Stepped.{Stepped}
 use Rattle.bench.proofs.play.play.Statement.{statement}
 use Rattle.bench.proofs.play.play.Tie as tie
 

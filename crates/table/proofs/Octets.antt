@@ -1,0 +1,6 @@
+pub mod RowLaws
+pub mod RowStores
+pub mod RecordTrip
+pub mod Standings
+pub mod Surveys
+pub mod HostLaws

@@ -1,0 +1,121 @@
+-- A record by its exchange's number: which numbers fit which role, state and time left, and which are (re)associations.
+-- Assumes nothing.
+use mathlib.Core.Path.{_≡_, refl, sym, _∙_}
+use mathlib.Core.Bool.{Bool, true, false, not, _&&_, _||_}
+use Prim.Native.Nat.{ℕ, zero, suc, _≤_, _<_}
+use native.Mathlib.Omega.{arith}
+use lib.Dec.{eqb, leb, ltb}
+use borrow.Author.Tests.{lt-leb, le-ltb, ne-eqb, eqb-false, eqb-true, leb-true, not-true}
+use Rattle.octets.specs.Address.{validOf}
+use Rattle.octets.specs.Row.{noRow}
+use Rattle.octets.specs.declared.row.Row.{Row}
+use Rattle.octets.proofs.Branch.{and-left, and-right}
+use Rattle.peer.proofs.Fits.{both}
+use Rattle.peer.specs.Fit.{askedFits, awaitingFits, exchangeFits, holdFits, recordFits, sentFits, stands}
+use Rattle.peer.specs.Record.{associates, exchangeOf, isFree, underWay}
+use Rattle.peer.specs.Settings.{ap, settingsFit, station}
+use Rattle.peer.specs.declared.settings.Settings.{Settings}
+use Rattle.table.specs.Rows.{recordOf}
+use Rattle.table.specs.declared.host.standing.Standing.{Standing}
+
+-- Each number from 0 to 9, and all above.
+pub by-number : (P : ℕ → Type 0) → P 0 → P 1 → P 2 → P 3 → P 4 → P 5 → P 6 → P 7 → P 8 → P 9 → ((n : ℕ) → 9 < n → P n) → (n : ℕ) → P n
+by-number P a b c d e f g h i j k zero = a
+by-number P a b c d e f g h i j k (suc zero) = b
+by-number P a b c d e f g h i j k (suc (suc zero)) = c
+by-number P a b c d e f g h i j k (suc (suc (suc zero))) = d
+by-number P a b c d e f g h i j k (suc (suc (suc (suc zero)))) = e
+by-number P a b c d e f g h i j k (suc (suc (suc (suc (suc zero))))) = f
+by-number P a b c d e f g h i j k (suc (suc (suc (suc (suc (suc zero)))))) = g
+by-number P a b c d e f g h i j k (suc (suc (suc (suc (suc (suc (suc zero))))))) = h
+by-number P a b c d e f g h i j k (suc (suc (suc (suc (suc (suc (suc (suc zero)))))))) = i
+by-number P a b c d e f g h i j k (suc (suc (suc (suc (suc (suc (suc (suc (suc zero))))))))) = j
+by-number P a b c d e f g h i j k (suc (suc (suc (suc (suc (suc (suc (suc (suc (suc n)))))))))) =
+    k (suc (suc (suc (suc (suc (suc (suc (suc (suc (suc n)))))))))) (omega arith)
+
+-- At an access point no time is left; then none and 1, or from State 2 on 2, 3, 5 and 6.
+pub ap-timed : (e state left : ℕ) → eqb left 0 ≡ false → (leb e 9 && exchangeFits (exchangeOf e) ap state left) ≡ false
+unfolding exchangeOf askedFits awaitingFits sentFits
+ap-timed e state left h =
+    by-number (λ e. (leb e 9 && exchangeFits (exchangeOf e) ap state left) ≡ false)
+    (rw h) (rw h) (rw h) (rw h) refl (rw h) (rw h) refl refl refl
+    (λ n m. rw (lt-leb n 9 m)) e
+
+pub ap-untimed : (e state : ℕ) → (leb e 9 && exchangeFits (exchangeOf e) ap state 0) ≡ (ltb e 2 || ((leb e 6 && not (eqb e 4)) && leb 2 state))
+unfolding exchangeOf askedFits awaitingFits sentFits stands
+ap-untimed e state =
+    by-number (λ e. (leb e 9 && exchangeFits (exchangeOf e) ap state 0) ≡ (ltb e 2 || ((leb e 6 && not (eqb e 4)) && leb 2 state)))
+    refl refl refl refl refl refl refl refl refl refl
+    (λ n m. rw (lt-leb n 9 m, le-ltb n 2 (omega arith), lt-leb n 6 (omega arith))) e
+
+-- At a station none has no time left; with time left 7, or from State 2 on 8 and 9.
+pub station-untimed : (e state : ℕ) → (leb e 9 && exchangeFits (exchangeOf e) station state 0) ≡ eqb e 0
+unfolding exchangeOf askedFits awaitingFits sentFits
+station-untimed e state =
+    by-number (λ e. (leb e 9 && exchangeFits (exchangeOf e) station state 0) ≡ eqb e 0)
+    refl refl refl refl refl refl refl refl refl refl
+    (λ n m. rw (lt-leb n 9 m, ne-eqb n 0 (omega arith))) e
+
+pub station-timed : (e state left : ℕ) → eqb left 0 ≡ false → (leb e 9 && exchangeFits (exchangeOf e) station state left) ≡ (eqb e 7 || ((leb 8 e && leb e 9) && leb 2 state))
+unfolding exchangeOf askedFits awaitingFits sentFits stands
+station-timed e state left h =
+    by-number (λ e. (leb e 9 && exchangeFits (exchangeOf e) station state left) ≡ (eqb e 7 || ((leb 8 e && leb e 9) && leb 2 state)))
+    (rw h) refl refl refl refl refl refl (rw h) (rw h) (rw h)
+    (λ n m. rw (lt-leb n 9 m, ne-eqb n 7 (omega arith)) (none (leb 8 n))) e
+  where
+    none : (b : Bool) → false ≡ ((b && false) && leb 2 state)
+    none true = refl
+    none false = refl
+
+-- Which numbers are (re)associations.
+pub joins : (e : ℕ) → e ≤ 9 → leb 2 (underWay (exchangeOf e)) ≡ not (ltb e 2 || (eqb e 4 || eqb e 7))
+unfolding exchangeOf
+joins =
+    by-number (λ e. e ≤ 9 → leb 2 (underWay (exchangeOf e)) ≡ not (ltb e 2 || (eqb e 4 || eqb e 7)))
+    (λ h. refl) (λ h. refl) (λ h. refl) (λ h. refl) (λ h. refl) (λ h. refl) (λ h. refl) (λ h. refl) (λ h. refl) (λ h. refl)
+    (λ n m h. absurd (omega arith))
+
+-- Which is none.
+pub idle : (e : ℕ) → e ≤ 9 → eqb (underWay (exchangeOf e)) 0 ≡ eqb e 0
+unfolding exchangeOf
+idle =
+    by-number (λ e. e ≤ 9 → eqb (underWay (exchangeOf e)) 0 ≡ eqb e 0)
+    (λ h. refl) (λ h. refl) (λ h. refl) (λ h. refl) (λ h. refl) (λ h. refl) (λ h. refl) (λ h. refl) (λ h. refl) (λ h. refl)
+    (λ n m h. absurd (omega arith))
+
+-- A row of a free place is all zero.
+pub free-row : (r : Row) → leb (r .exchange) 9 ≡ true → isFree (recordOf r) ≡ true → r ≡ noRow
+unfolding isFree recordOf
+free-row r n h =
+    let a = both (eqb (r .address) 0) _ h in
+    let b = both (eqb (r .state) 0) _ (a .1) in
+    let c = both (eqb (r .left) 0) _ (b .1) in
+    let d = both (eqb (r .hold) 0) _ (c .1) in
+    let e : eqb (r .exchange) 0 ≡ true = sym (idle (r .exchange) (leb-true (r .exchange) 9 n)) ∙ d .1 in
+    λ i. record {
+      address = eqb-true (r .address) 0 (a .0) i;
+      hold = eqb-true (r .hold) 0 (d .0) i;
+      left = eqb-true (r .left) 0 (c .0) i;
+      state = eqb-true (r .state) 0 (b .0) i;
+      exchange = eqb-true (r .exchange) 0 e i;
+    }
+
+-- What does not fit has no standing.
+pub no-standing : (x : Standing) → x ≡ record { fit = false; associating = false } → (b z : Bool) → b ≡ false → (x .fit ≡ b) × (x .fit ≡ true → x .associating ≡ z)
+no-standing x q b z e = (rw (q, e), λ t. cc (rw q at t))
+
+-- Settings that fit are an access point's or a station's.
+pub a-station : (s : Settings) → settingsFit s ≡ true → eqb (s .role) ap ≡ false → s .role ≡ station
+unfolding settingsFit
+a-station s h e =
+    let low : eqb (s .role) 0 ≡ false = not-true (eqb (s .role) 0) (and-left (not (eqb (s .role) 0)) _ h) in
+    let high : leb (s .role) 2 ≡ true = and-left (leb (s .role) 2) _ (and-right (not (eqb (s .role) 0)) _ h) in
+    omega (arith, eqb-false (s .role) 0 low, leb-true (s .role) 2 high, eqb-false (s .role) ap e)
+
+-- A record that fits but for its exchange has its exchange's standing.
+pub by-exchange : (s : Settings) (r : Row) (x : Standing) (role : ℕ) → s .role ≡ role → leb 1 (r .state) ≡ true → leb (r .state) 4 ≡ true → eqb (r .address) (s .own) ≡ false → validOf (r .address) ≡ true
+    → holdFits role (r .hold) ≡ true
+    → (x .fit ≡ (leb (r .exchange) 9 && exchangeFits (exchangeOf (r .exchange)) role (r .state) (r .left))) × (x .fit ≡ true → x .associating ≡ leb 2 (underWay (exchangeOf (r .exchange))))
+    → (x .fit ≡ (leb (r .exchange) 9 && recordFits s (recordOf r))) × (x .fit ≡ true → x .associating ≡ associates (recordOf r))
+unfolding recordFits recordOf associates
+by-exchange s r x role e low high own ok hold h = (rw (low, high, own, ok, e, hold) (h .0), h .1)

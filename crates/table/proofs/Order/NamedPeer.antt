@@ -1,0 +1,81 @@
+-- The peer that an event names: its address is not 0, and the event has the buffer that it needs.
+-- Assumes nothing.
+use Prim.Native.Nat.{ℕ, _%_}
+use native.Mathlib.Omega.{arith}
+use mathlib.Core.Path.{_≡_, refl}
+use mathlib.Core.Bool.{Bool, true, false, not, _&&_, _||_}
+use mathlib.Core.Option.{none, some}
+use mathlib.Core.List.{List}
+use lib.Dec.{eqb, ltb, leb}
+use lib.ListN.{length}
+use borrow.Author.Tests.{not-true}
+use Rattle.octets.proofs.Branch.{and-left, and-right}
+use Rattle.octets.specs.Pick.{pick}
+use Rattle.octets.specs.Address.{validOf}
+use Rattle.octets.specs.Field.{field}
+use Rattle.octets.specs.Shape.{shapeOf}
+use Rattle.octets.specs.Frame.{longest}
+use Rattle.octets.specs.declared.shape.Shape.{Shape}
+use Rattle.octets.specs.declared.shape.Shape.the-variants.{Misfit, Classless, Bare, Full}
+use Rattle.peer.specs.Refuse.{codeAllowed, roleAllowed}
+use Rattle.peer.specs.declared.settings.Settings.{Settings}
+use Rattle.table.specs.Read.{forUs, readBare, readFrom, readFull, readAs, readOf}
+use Rattle.table.specs.Ask.{mayAsk}
+use Rattle.table.specs.Order.{Coming, frame, primitive, Handed, readPeer, comingPeer, peerNamed}
+use Rattle.table.specs.declared.rules.read.Reading.the-variants.{Refused, Admitted}
+
+-- an event that names nobody names no peer
+pub nobody : {P : Type 0} {a : ℕ} → none ≡ some a → P
+nobody e = let z : _≡_ {A = ℕ} 0 1 = cc in absurd (omega arith)
+
+-- an address that is valid is not 0
+valid-some : (a : ℕ) → validOf a ≡ true → eqb a 0 ≡ false
+unfolding validOf
+valid-some a v = not-true (eqb a 0) (and-left (not (eqb a 0)) (leb a 281474976710655 && eqb (a % 2) 0) v)
+
+full-some : (own : ℕ) (xs : List ℕ) (a : ℕ) → readPeer (readFull own xs) ≡ some a → eqb a 0 ≡ false
+unfolding readFull readFrom
+full-some own xs a e = go (not (forUs own (field 6 4 xs))) (eqb (field 6 10 xs) own) (validOf (field 6 10 xs)) refl e
+  where
+    go : (f o v : Bool) → validOf (field 6 10 xs) ≡ v → readPeer (pick f (Refused 4) (pick (o || not v) (Refused 3) (readFrom (field 6 10 xs) (field 6 4 xs) xs))) ≡ some a → eqb a 0 ≡ false
+    go true o v q w = nobody w
+    go false true v q w = nobody w
+    go false false false q w = nobody w
+    go false false true q w = let p : field 6 10 xs ≡ a = cc in valid-some a (rw p at q)
+
+bare-some : (own : ℕ) (xs : List ℕ) (a : ℕ) → readPeer (readBare own xs) ≡ some a → eqb a 0 ≡ false
+unfolding readBare
+bare-some own xs a e = go (forUs own (field 6 4 xs)) e
+  where
+    go : (f : Bool) → readPeer (pick f Admitted (Refused 4)) ≡ some a → eqb a 0 ≡ false
+    go true w = nobody w
+    go false w = nobody w
+
+read-some : (h : Shape) (own : ℕ) (xs : List ℕ) (a : ℕ) → readPeer (readAs h own xs) ≡ some a → eqb a 0 ≡ false
+read-some Misfit own xs a e = nobody e
+read-some Classless own xs a e = nobody e
+read-some Bare own xs a e = bare-some own xs a e
+read-some Full own xs a e = full-some own xs a e
+
+module _ (s : Settings) where
+  pub coming-some : (c : Coming) (a : ℕ) → comingPeer s c ≡ some a → eqb a 0 ≡ false
+  unfolding readOf mayAsk
+  coming-some (frame xs) a e = read-some (shapeOf xs) (s .own) xs a e
+  coming-some (primitive q b c) a e = go (mayAsk s q b c) (roleAllowed q (s .role)) refl e
+    where
+      go : (m l : Bool) → mayAsk s q b c ≡ m → pick m (pick l (some b) none) none ≡ some a → eqb a 0 ≡ false
+      go true true v w =
+          let p : b ≡ a = cc in
+          valid-some a
+          (rw p at (and-right (not (eqb b (s .own))) (validOf b) (and-right (codeAllowed q c) (not (eqb b (s .own)) && validOf b) v)))
+      go true false v w = nobody w
+      go false l v w = nobody w
+
+  -- an event that names a peer has the buffer that it needs
+  pub named-long : (e : Handed) (a : ℕ) → peerNamed s e ≡ some a → (ltb (length (e .out)) longest ≡ false) × (comingPeer s (e .coming) ≡ some a)
+  unfolding peerNamed
+  named-long e a h = go (ltb (length (e .out)) longest) refl h
+    where
+      go : (b : Bool) → ltb (length (e .out)) longest ≡ b → pick b none (comingPeer s (e .coming)) ≡ some a → (ltb (length (e .out)) longest ≡ false) × (comingPeer s (e .coming) ≡ some a)
+      go true q w = nobody w
+      go false q w = (q, w)

@@ -1,0 +1,9 @@
+pub mod Gives
+pub mod MarkedCases
+pub mod RefusedExactly
+pub mod RefusedKeeps
+pub mod WrittenCount
+pub mod Timeouts
+pub mod Well
+pub mod StepKeeps
+pub mod DiscardLeaves

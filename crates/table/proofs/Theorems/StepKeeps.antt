@@ -1,0 +1,150 @@
+-- 01, Settings, table, clock, of "Well formed": "Each step keeps this."
+-- Assumes nothing.
+use Prim.Native.Nat.{ℕ, _≤_}
+use mathlib.Core.Path.{_≡_, refl, sym, _∙_}
+use mathlib.Core.Bool.{Bool, true, false, not, _||_}
+use mathlib.Core.List.{List, _∷_, map}
+use native.Mathlib.Omega.{arith}
+use lib.Dec.{eqb, leb, ltb}
+use lib.ListN.{length, length-map}
+use borrow.Author.Tests.{eqb-false, leb-true, ltb-false, not-false, not-true}
+use mathlib.Core.Logic.{_≢_}
+use Rattle.octets.proofs.Branch.{by-bool}
+use Rattle.octets.specs.Address.{validOf, groupOf}
+use Rattle.octets.specs.Class.{classOf}
+use Rattle.octets.specs.Field.{field}
+use Rattle.octets.specs.Frame.{longest}
+use Rattle.octets.specs.Heard.{heardOf}
+use Rattle.octets.specs.Shape.{shapeOf}
+use Rattle.octets.specs.declared.shape.Shape.{Shape}
+use Rattle.octets.specs.declared.shape.Shape.the-variants.{Misfit, Classless, Bare, Full}
+use Rattle.peer.proofs.Fits.{both, or-left, wrong}
+use Rattle.peer.proofs.AskKeeps.{ask-keeps}
+use Rattle.peer.proofs.HearKeeps.{backed, hear-keeps}
+use Rattle.peer.proofs.TickKeeps.{tick-keeps}
+use Rattle.peer.specs.Fit.{placeFits}
+use Rattle.peer.specs.Record.{associates, isJoined}
+use Rattle.peer.specs.Refuse.{codeAllowed}
+use Rattle.peer.specs.Settings.{ap, settingsFit, station}
+use Rattle.peer.specs.declared.record.Record.{Record}
+use Rattle.peer.specs.declared.settings.Settings.{Settings}
+use Rattle.table.specs.Answer.{refusedOf, settledOf, steppedOf}
+use Rattle.table.specs.Ask.{askedAt, askedOf, mayAsk}
+use Rattle.table.specs.Fit.{crowdOf, wellFormed}
+use Rattle.table.specs.Others.{othersOf}
+use Rattle.table.specs.Pass.{afterOf, clockedOf, passRefusals, passedOf}
+use Rattle.table.specs.Places.{addressesOf, countOf, findOf}
+use Rattle.table.specs.Read.{forUs, readAs, readBare, readFrom, readFull, readOf}
+use Rattle.table.specs.Receive.{heardAt, heardFrom, receivedOf}
+use Rattle.table.specs.Refusals.{firstOf, unless}
+use Rattle.table.specs.Seat.{peerOf}
+use Rattle.table.specs.Step.{stepOf}
+use Rattle.table.specs.declared.rules.answer.Met.{Met}
+use Rattle.table.specs.declared.rules.event.Event.{Event}
+use Rattle.table.specs.declared.rules.event.Event.the-variants as event
+use Rattle.table.proofs.Theorems.Well.{Well, in-turn, of-well, well-of}
+use Rattle.table.proofs.Passes.Lists.{all-map, count-map, distinct-map}
+
+-- the statement: both roles, every rule, all events
+abbrev pub EachStepKeeps : Type 0
+EachStepKeeps =
+    (s : Settings) (t : List Record) → wellFormed s t ≡ true → length t ≡ 32 → (e : Event) (xs : List ℕ) (n : ℕ)
+    → (wellFormed s (stepOf s t e xs n .table) ≡ true) × (length (stepOf s t e xs n .table) ≡ 32)
+
+is-station : (s : Settings) → settingsFit s ≡ true → eqb (s .role) ap ≡ false → s .role ≡ station
+unfolding settingsFit
+is-station s h r =
+    let a = both (not (eqb (s .role) 0)) _ h in
+    let b = both (leb (s .role) 2) _ (a .1) in
+    let low : s .role ≢ 0 = eqb-false (s .role) 0 (not-true _ (a .0)) in
+    let one : s .role ≢ 1 = eqb-false (s .role) 1 r in
+    omega (arith, leb-true (s .role) 2 (b .0))
+
+-- ---- frames
+
+module _ (s : Settings) (t : List Record) (w : Well s t) where
+  heard : (xs : List ℕ) (shape : Shape) → Well s (heardAt s t (addressesOf t) (readAs shape (s .own) xs) .table)
+  unfolding refusedOf settledOf readBare readFull readFrom heardFrom
+  heard xs Misfit = w
+  heard xs Classless = w
+  heard xs Bare = by-bool (forUs (s .own) (field 6 4 xs)) (λ e. rw e w) (λ e. rw e w)
+  heard xs Full = by-bool (not (forUs (s .own) (field 6 4 xs)))
+      (λ e. rw e w)
+      (λ e. by-bool (eqb (field 6 10 xs) (s .own) || not (validOf (field 6 10 xs)))
+      (λ g. rw (e, g) w)
+      (λ g.
+      let n = or-left (eqb (field 6 10 xs) (s .own)) _ g in
+      rw (e, g) (in-turn s t w true (λ r b. wrong (sym b)) (field 6 10 xs) (rw (n .0)) (not-false _ (n .1))
+      (findOf (addressesOf t) (field 6 10 xs)) (findOf (addressesOf t) 0) _ _ refl
+      (λ f. hear-keeps s true (peerOf t (findOf (addressesOf t) (field 6 10 xs)) (field 6 10 xs)) f
+      (classOf xs) (groupOf (field 6 4 xs)) (heardOf xs) (backed xs)))))
+
+  frame-keeps : (xs : List ℕ) (n : ℕ) → Well s (receivedOf s t xs n .table)
+  unfolding receivedOf refusedOf settledOf readOf
+  frame-keeps xs n = by-bool (ltb n longest)
+      (λ e. rw e w)
+      (λ e. rw (e, of-well s t w) (heard xs (shapeOf xs)))
+
+  -- ---- primitives
+
+  unless-keeps : (n : ℕ) (m : Met) → (eqb n 0 ≡ true → Well s (m .table)) → Well s (unless n t m .table)
+  unfolding unless refusedOf settledOf
+  unless-keeps n m k = by-bool (eqb n 0) (λ e. rw e (k e)) (λ e. rw e w)
+
+  -- a station sees whether any record has a (re)association
+  others-free : eqb (s .role) ap ≡ false → othersOf s t .busy ≡ false → countOf associates t ≡ 0
+  unfolding othersOf crowdOf
+  others-free r b =
+      let z : countOf associates t ≤ 0 = ltb-false 0 (countOf associates t) (rw (is-station s (w .settings) r) at b) in
+      omega arith
+
+  none-of : (k : ℕ) (b : Bool) (rest : List (ℕ × Bool)) → eqb k 0 ≡ false → eqb (firstOf ((k, b) ∷ rest)) 0 ≡ true → (b ≡ false) × (eqb (firstOf rest) 0 ≡ true)
+  unfolding firstOf
+  none-of k true rest z h = wrong (sym z ∙ h)
+  none-of k false rest z h = (refl, h)
+
+  asked : (q a c : ℕ) → Well s (askedAt s t (addressesOf t) q a c .table)
+  unfolding askedAt mayAsk
+  asked q a c = unless-keeps _ _ (λ e.
+      let r3 = none-of 3 _ _ refl e in
+      let r5 = none-of 5 _ _ refl (r3 .1) in
+      let r9 = none-of 9 _ _ refl (r5 .1) in
+      let r7 = none-of 7 _ _ refl (r9 .1) in
+      let may = both (codeAllowed q c) _ (not-false _ (r3 .0)) in
+      let peer = both (not (eqb a (s .own))) _ (may .1) in
+      in-turn s t w (othersOf s t .busy) others-free a (peer .0) (peer .1) (findOf (addressesOf t) a) (findOf (addressesOf t) 0) _ _ refl
+      (λ f. ask-keeps s (peerOf t (findOf (addressesOf t) a) a) f (othersOf s t) (w .settings) _ q c
+      (may .0) (not-false _ (r5 .0)) (r9 .0) (r7 .0)))
+
+  primitive-keeps : (q a c n : ℕ) → Well s (askedOf s t q a c n .table)
+  unfolding askedOf
+  primitive-keeps q a c n = unless-keeps _ _ (λ e. asked q a c)
+
+  -- ---- the clock
+
+  clock-keeps : (d n : ℕ) → Well s (passedOf s t d n .table)
+  unfolding passedOf clockedOf
+  clock-keeps d n = by-bool (eqb (firstOf (passRefusals s t d n)) 0) (λ e. rw e ticked) (λ e. rw e w)
+    where
+      ticked : Well s (map (afterOf s d) t)
+      ticked = record {
+        settings = w .settings;
+        long = length-map t (afterOf s d) ∙ w .long;
+        places = all-map (placeFits s) (placeFits s) (afterOf s d) (λ p h. tick-keeps s p d h .place) t (w .places);
+        distinct = distinct-map (placeFits s) (afterOf s d) (λ p h. tick-keeps s p d h .same) t (w .places) (w .distinct);
+        joined = λ r. omega (arith, w .joined r, count-map (placeFits s) isJoined isJoined (afterOf s d) (λ p h. tick-keeps s p d h .joins r refl) t (w .places));
+        associating = λ r. omega (arith, w .associating r, count-map (placeFits s) associates associates (afterOf s d) (λ p h. tick-keeps s p d h .starts r refl) t (w .places));
+      }
+
+  stepped : (e : Event) (xs : List ℕ) (n : ℕ) → Well s (stepOf s t e xs n .table)
+  unfolding steppedOf
+  stepped event.Frame xs n = frame-keeps xs n
+  stepped (event.Ask q a c) xs n = primitive-keeps q a c n
+  stepped (event.Clock d) xs n = clock-keeps d n
+
+-- ---- the theorem
+
+pub step-keeps : EachStepKeeps
+step-keeps s t h l e xs n =
+    let k = stepped s t (well-of s t h l) e xs n in
+    (of-well s (stepOf s t e xs n .table) k, k .long)

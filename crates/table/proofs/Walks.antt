@@ -1,0 +1,6 @@
+pub mod ArrayField
+pub mod Copied
+pub mod Guards
+pub mod LocalArray
+pub mod Shared
+pub mod LentLaws

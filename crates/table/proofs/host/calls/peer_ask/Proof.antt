@@ -1,0 +1,81 @@
+-- `table::host::calls::peer_ask` meets its contract: each answer by the tests that led to it and what its callees ensure.
+-- Assumes nothing.
+use Rattle.table.specs.declared.rules.event.Event.the-variants as event
+use Rattle.octets.proofs.Branch.{and-right}
+use Rattle.table.proofs.Octets.HostLaws.{acts, ill-formed, no-room, no-table, not-long, primitive-asked, rows-table}
+use Rattle.table.specs.Ask.{askedOf}
+use Rattle.table.specs.Fit.{wellFormed}
+use Rattle.table.specs.Rows.{numberedAt, recordsOf}
+use Rattle.table.specs.Seat.{metOf}
+use borrow.Author.Needs.{needs}
+use denote.Ref.{now}
+use lib.ListN.{length}
+use mathlib.Core.List.{[]}
+use mathlib.Core.Path.{_∙_, _≡_, refl, sym}
+use Rattle.table.proofs.host.calls.peer_ask.Statement.{statement}
+use Rattle.table.proofs.host.calls.peer_ask.Tie as tie
+
+refusal-requires : tie.Need-refusal-requires
+refusal-requires c κs = search needs
+
+returns : tie.Need-returns
+returns c = rw (c .refusal .ensures) (no-room (now (c .before .before .before .before .args .table)) (c .before .before .before .before .args .s) (event.Ask (c .before .before .before .before .args .primitive) (c .before .before .before .before .args .address) (c .before .before .before .before .args .code)) [] (now (c .before .before .before .before .args .out)) (λ k. c .before .before .before .slice-known .given k .fits) (c .before .if1 .taken))
+
+refusal-requires-2 : tie.Need-refusal-requires-2
+refusal-requires-2 c κs = search needs
+
+returns-2 : tie.Need-returns-2
+returns-2 c = rw (c .refusal2 .ensures) (no-table (now (c .before .before .before .before .before .args .table)) (c .before .before .before .before .before .args .s) (event.Ask (c .before .before .before .before .before .args .primitive) (c .before .before .before .before .before .args .address) (c .before .before .before .before .before .args .code)) [] (now (c .before .before .before .before .before .args .out)) (not-long (now (c .before .before .before .before .before .args .table)) (c .before .if2 .taken)) (c .before .before .if1 .left))
+
+survey-requires : tie.Need-survey-requires
+survey-requires c κs = search needs
+
+refusal-requires-3 : tie.Need-refusal-requires-3
+refusal-requires-3 c κs = search needs
+
+same-length : tie.Need-same-length
+same-length c = search needs
+
+returns-3 : tie.Need-returns-3
+returns-3 c = rw (c .refusal3 .ensures) (ill-formed (now (c .before .before .before .before .before .before .before .before .args .table)) (c .before .before .before .before .before .before .before .before .args .s) (event.Ask (c .before .before .before .before .before .before .before .before .args .primitive) (c .before .before .before .before .before .before .before .before .args .address) (c .before .before .before .before .before .before .before .before .args .code)) [] (now (c .before .before .before .before .before .before .before .before .args .out)) (λ k. c .before .before .before .before .before .before .before .slice-known .given k .fits) (c .before .before .before .before .if2 .left) (c .before .before .before .before .before .if1 .left) (sym (c .before .before .survey .ensures .0) ∙ c .before .if3 .left))
+
+others-requires : tie.Need-others-requires
+others-requires c κs = search needs
+
+asked-in-requires : tie.Need-asked-in-requires
+asked-in-requires c κs = search needs
+
+met-requires : tie.Need-met-requires
+met-requires c κs = search needs
+
+answered-requires : tie.Need-answered-requires
+answered-requires c κs = search needs
+
+same-length-2 : tie.Need-same-length-2
+same-length-2 c = search needs
+
+same-length-3 : tie.Need-same-length-3
+same-length-3 c = search needs
+
+returns-4 : tie.Need-returns-4
+returns-4 c = let w = sym (c .before .before .before .before .before .before .before .before .before .before .before .before .before .survey .ensures .0) ∙ c .before .before .before .before .before .before .before .before .before .before .before .before .if3 .taken in let i = rows-table (c .before .before .before .before .before .before .before .before .before .before .before .before .before .before .before .before .before .before .before .args .s) (now (c .before .before .before .before .before .before .before .before .before .before .before .before .before .before .before .before .before .before .before .args .table)) (c .before .before .before .before .before .before .before .before .before .before .before .before .before .before .before .if2 .left) w in let f = and-right (numberedAt 32 0 (now (c .before .before .before .before .before .before .before .before .before .before .before .before .before .before .before .before .before .before .before .args .table))) (wellFormed (c .before .before .before .before .before .before .before .before .before .before .before .before .before .before .before .before .before .before .before .args .s) (recordsOf (now (c .before .before .before .before .before .before .before .before .before .before .before .before .before .before .before .before .before .before .before .args .table)))) w in let v = c .before .before .before .before .before .before .before .before .before .before .before .before .before .survey .ensures .1 (c .before .before .before .before .before .before .before .before .before .before .before .before .if3 .taken) in let m : metOf (recordsOf (now (c .before .before .before .before .before .before .before .before .before .before .before .before .before .before .before .before .before .before .before .args .table))) (c .before .before .before .before .before .before .before .before .before .asked-in .result) ≡ askedOf (c .before .before .before .before .before .before .before .before .before .before .before .before .before .before .before .before .before .before .before .args .s) (recordsOf (now (c .before .before .before .before .before .before .before .before .before .before .before .before .before .before .before .before .before .before .before .args .table))) (c .before .before .before .before .before .before .before .before .before .before .before .before .before .before .before .before .before .before .before .args .primitive) (c .before .before .before .before .before .before .before .before .before .before .before .before .before .before .before .before .before .before .before .args .address) (c .before .before .before .before .before .before .before .before .before .before .before .before .before .before .before .before .before .before .before .args .code) (length (now (c .before .before .before .before .before .before .before .before .before .before .before .before .before .before .before .before .before .before .before .args .out))) = c .before .before .before .before .before .before .before .before .before .asked-in .ensures (c .before .before .before .before .before .before .before .before .before .before .before .others .ensures (recordsOf (now (c .before .before .before .before .before .before .before .before .before .before .before .before .before .before .before .before .before .before .before .args .table))) (v .0) (v .1)) ∙ primitive-asked (c .before .before .before .before .before .before .before .before .before .before .before .before .before .before .before .before .before .before .before .args .s) (recordsOf (now (c .before .before .before .before .before .before .before .before .before .before .before .before .before .before .before .before .before .before .before .args .table))) (c .before .before .before .before .before .before .before .before .before .before .before .before .before .before .before .before .before .before .before .args .primitive) (c .before .before .before .before .before .before .before .before .before .before .before .before .before .before .before .before .before .before .before .args .address) (c .before .before .before .before .before .before .before .before .before .before .before .before .before .before .before .before .before .before .before .args .code) (length (now (c .before .before .before .before .before .before .before .before .before .before .before .before .before .before .before .before .before .before .before .args .out))) (c .before .before .before .before .before .before .before .before .before .before .before .before .before .before .before .before .if1 .left) f in let a = acts (now (c .before .before .before .before .before .before .before .before .before .before .before .before .before .before .before .before .before .before .before .args .table)) (c .before .before .before .before .before .before .before .before .before .before .before .before .before .before .before .before .before .before .before .args .s) (event.Ask (c .before .before .before .before .before .before .before .before .before .before .before .before .before .before .before .before .before .before .before .args .primitive) (c .before .before .before .before .before .before .before .before .before .before .before .before .before .before .before .before .before .before .before .args .address) (c .before .before .before .before .before .before .before .before .before .before .before .before .before .before .before .before .before .before .before .args .code)) [] (now (c .before .before .before .before .before .before .before .before .before .before .before .before .before .before .before .before .before .before .before .args .out)) i (c .before .before .before .before .before .before .before .before .before .asked-in .result) _ m refl refl in (c .before .before .answered .ensures .0 ∙ a .0, c .before .before .before .before .before .before .before .met .ensures i ∙ a .1, c .before .before .answered .ensures .1 ∙ a .2)
+
+pub peer-ask-spec : {M : Type 1} → statement M
+peer-ask-spec =
+    tie.close
+    (tie.spec
+    refusal-requires
+    returns
+    refusal-requires-2
+    returns-2
+    survey-requires
+    refusal-requires-3
+    same-length
+    returns-3
+    others-requires
+    asked-in-requires
+    met-requires
+    answered-requires
+    same-length-2
+    same-length-3
+    returns-4)

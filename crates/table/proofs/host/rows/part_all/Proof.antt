@@ -1,0 +1,61 @@
+-- `table::host::rows::part_all` meets its contract: the places passed hold what they must, the others what they held.
+-- Assumes nothing.
+use Prim.Native.Nat.{_-_, _≤_}
+use Rattle.peer.specs.Association.{partedOf}
+use Rattle.table.proofs.Octets.RowStores.{Rewritten, record-unread, rewritten-all, rewritten-length, rewritten-more, rewritten-none}
+use borrow.Author.Needs.{needs}
+use borrow.Author.Tests.{lt-ltb}
+use lib.ListN.{length}
+use mathlib.Core.Path.{_∙_, _≡_}
+use native.Mathlib.Omega.{arith}
+use Rattle.table.proofs.host.rows.part_all.Statement.{statement}
+use Rattle.table.proofs.host.rows.part_all.Tie as tie
+
+abbrev Inv-loop : tie.InvT-loop
+Inv-loop table₀ i₀ table i = (length table₀ ≡ 512) × (i ≤ 32) × Rewritten partedOf table₀ i table
+
+abbrev μ-loop : tie.MeasureT-loop
+μ-loop table₀ i₀ table i = 32 - i
+
+loop-holds : tie.Need-loop-holds Inv-loop μ-loop
+loop-holds c = (c .before .pre, search needs, rewritten-none partedOf _)
+
+look-requires : tie.Need-look-requires Inv-loop μ-loop
+look-requires c κs = search needs
+
+parted-requires : tie.Need-parted-requires Inv-loop μ-loop
+parted-requires c κs = search needs
+
+store-requires : tie.Need-store-requires Inv-loop μ-loop
+store-requires c κs = search needs
+
+add-i : tie.Need-add-i Inv-loop μ-loop
+add-i c = search needs
+
+loop-less : tie.Need-loop-less Inv-loop μ-loop
+loop-less c = search needs
+
+loop-again : tie.Need-loop-again Inv-loop μ-loop
+loop-again c = (c .before .before .before .before .before .before .before .before .loop .inv .0, omega (arith, c .before .before .before .before .before .before .before .loop-test .taken), c .before .before .store .ensures ∙ rw (lt-ltb _ _ (c .before .before .before .before .before .before .before .loop-test .taken)) (rewritten-more partedOf _ (c .before .before .before .before .before .before .before .before .loop .inv .0) _ _ (c .before .before .before .before .before .before .before .loop-test .taken) (c .before .before .before .before .before .before .before .before .loop .inv .2) _ (c .before .before .before .before .parted .ensures ∙ rw (c .before .before .before .before .before .look .ensures, record-unread partedOf _ (c .before .before .before .before .before .before .before .before .loop .inv .0) _ _ (c .before .before .before .before .before .before .before .loop-test .taken) (c .before .before .before .before .before .before .before .before .loop .inv .2)))))
+
+same-length : tie.Need-same-length Inv-loop μ-loop
+same-length c = rewritten-length partedOf _ (c .before .loop .inv .0) _ _ (c .before .loop .inv .1) (c .before .loop .inv .2)
+
+returns : tie.Need-returns Inv-loop μ-loop
+returns c = rewritten-all partedOf _ (c .before .loop .inv .0) _ _ (c .before .loop .inv .1) (c .loop-test .left) (c .before .loop .inv .2)
+
+pub part-all-spec : {M : Type 1} → statement M
+part-all-spec =
+    tie.close
+    (tie.spec
+    Inv-loop
+    μ-loop
+    loop-holds
+    look-requires
+    parted-requires
+    store-requires
+    add-i
+    loop-less
+    loop-again
+    same-length
+    returns)

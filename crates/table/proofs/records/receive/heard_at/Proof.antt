@@ -1,0 +1,83 @@
+-- `table::records::receive::heard_at` meets its contract: each answer by the tests that led to it and what its callees ensure.
+-- Assumes nothing.
+use Rattle.table.specs.Receive.{heardFrom}
+use borrow.Author.Needs.{needs}
+use Rattle.table.proofs.records.receive.heard_at.Statement.{statement}
+use Rattle.table.proofs.records.receive.heard_at.Tie as tie
+
+enum-known-r : tie.Need-enum-known-r
+enum-known-r c = search needs
+
+refused-requires : tie.Need-refused-requires
+refused-requires c κs = search needs
+
+enum-told : tie.Need-enum-told
+enum-told c = search needs
+
+verdict-requires : tie.Need-verdict-requires
+verdict-requires c κs = search needs
+
+settled-requires : tie.Need-settled-requires
+settled-requires c κs = search needs
+
+enum-told-2 : tie.Need-enum-told-2
+enum-told-2 c = search needs
+
+verdict-requires-2 : tie.Need-verdict-requires-2
+verdict-requires-2 c κs = search needs
+
+settled-requires-2 : tie.Need-settled-requires-2
+settled-requires-2 c κs = search needs
+
+enum-known-r-2 : tie.Need-enum-known-r-2
+enum-known-r-2 c = search needs
+
+find-requires : tie.Need-find-requires
+find-requires c κs = search needs
+
+find-requires-2 : tie.Need-find-requires-2
+find-requires-2 c κs = search needs
+
+peer-at-requires : tie.Need-peer-at-requires
+peer-at-requires c κs = search needs
+
+heard-from-requires : tie.Need-heard-from-requires
+heard-from-requires c κs = search needs
+
+returns : tie.Need-returns
+unfolding heardFrom
+returns c = rw (c .before .before .r .given .1) (c .refused .ensures (c .before .before .before .before .before .args .t))
+
+returns-2 : tie.Need-returns-2
+unfolding heardFrom
+returns-2 c = rw (c .before .before .enum-told .given .1, ← c .before .verdict .ensures) (c .settled .ensures (c .before .before .before .before .before .args .t))
+
+returns-3 : tie.Need-returns-3
+unfolding heardFrom
+returns-3 c = rw (c .before .before .enum-told2 .given .1, ← c .before .verdict2 .ensures) (c .settled2 .ensures (c .before .before .before .before .before .args .t))
+
+returns-4 : tie.Need-returns-4
+unfolding heardFrom
+returns-4 c = rw (c .before .before .before .before .before .r2 .given .1, ← c .before .before .before .find .ensures, ← c .before .before .find2 .ensures, ← c .before .peer-at .ensures) (c .heard-from .ensures (c .before .before .before .before .before .before .before .before .args .t))
+
+pub heard-at-spec : {M : Type 1} → statement M
+heard-at-spec =
+    tie.close
+    (tie.spec
+    enum-known-r
+    refused-requires
+    enum-told
+    verdict-requires
+    settled-requires
+    enum-told-2
+    verdict-requires-2
+    settled-requires-2
+    enum-known-r-2
+    find-requires
+    find-requires-2
+    peer-at-requires
+    heard-from-requires
+    returns
+    returns-2
+    returns-3
+    returns-4)

@@ -1,0 +1,42 @@
+-- `table::rules::ask::asked_at` meets its contract: each answer by the tests that led to it and what its callees ensure.
+-- Assumes nothing.
+use Rattle.table.specs.Refusals.{unless}
+use borrow.Author.Needs.{needs}
+use borrow.Author.Tests.{eq-eqb, ne-eqb}
+use Rattle.table.proofs.rules.ask.asked_at.Statement.{statement}
+use Rattle.table.proofs.rules.ask.asked_at.Tie as tie
+
+refusal-requires : tie.Need-refusal-requires
+refusal-requires c κs = search needs
+
+refused-requires : tie.Need-refused-requires
+refused-requires c κs = search needs
+
+returns : tie.Need-returns
+unfolding unless
+returns c = λ t. rw (← c .before .before .refusal .ensures, ne-eqb _ _ (c .before .if1 .taken)) (c .refused .ensures t)
+
+aid-requires : tie.Need-aid-requires
+aid-requires c κs = search needs
+
+ask-requires : tie.Need-ask-requires
+ask-requires c κs = search needs
+
+turn-in-requires : tie.Need-turn-in-requires
+turn-in-requires c κs = search needs
+
+returns-2 : tie.Need-returns-2
+unfolding unless
+returns-2 c = λ t. rw (← c .before .before .before .before .refusal .ensures, eq-eqb _ _ (c .before .before .before .if1 .left), ← c .before .before .aid .ensures, ← c .before .ask .ensures) (c .turn-in .ensures t)
+
+pub asked-at-spec : {M : Type 1} → statement M
+asked-at-spec =
+    tie.close
+    (tie.spec
+    refusal-requires
+    refused-requires
+    returns
+    aid-requires
+    ask-requires
+    turn-in-requires
+    returns-2)

@@ -1,0 +1,23 @@
+-- `table::rules::read::read_from` meets its contract: each answer by the tests that led to it and what its callees ensure.
+-- Assumes nothing.
+use Rattle.octets.proofs.Branch.{tests}
+use Rattle.table.specs.Read.{readFrom}
+use borrow.Author.Needs.{needs}
+use Rattle.table.proofs.rules.read.read_from.Statement.{statement}
+use Rattle.table.proofs.rules.read.read_from.Tie as tie
+
+group-requires : tie.Need-group-requires
+group-requires c κs = search needs
+
+class-requires : tie.Need-class-requires
+class-requires c κs = search needs
+
+read-requires : tie.Need-read-requires
+read-requires c κs = search needs
+
+returns : tie.Need-returns
+unfolding readFrom
+returns c = search (tests, ← c .read .ensures, ← c .before .class .ensures, ← c .before .before .group .ensures)
+
+pub read-from-spec : {M : Type 1} → statement M
+read-from-spec = tie.close (tie.spec group-requires class-requires read-requires returns)

@@ -1,0 +1,158 @@
+// The boundary to C: the three calls over a table of 512 octets. `include/peer_table.h` declares them.
+use crate::host::rows::clock;
+use crate::host::rows::find;
+use crate::host::rows::met;
+use crate::host::rows::peer_at;
+use crate::host::rows::vacancy;
+use crate::host::survey::survey;
+use crate::rules::answer::Answer;
+use crate::rules::ask::asked_at;
+use crate::rules::others::others;
+use crate::rules::read::Reading;
+use crate::rules::read::read;
+use crate::rules::receive::heard_from;
+use crate::rules::seat::Change;
+use crate::rules::seat::answered;
+use crate::rules::seat::refused;
+use crate::rules::seat::settled;
+use octets::frame::Frame;
+use peer::refuse::Others;
+use peer::settings::Settings;
+use peer::turn::Turn;
+ghost use mathlib.Core.Path.{_≡_};
+ghost use mathlib.Core.List.{[]};
+ghost use lib.ListN.{length};
+ghost use Rattle.table.specs.Host.{hostAnswer, hostTable, hostIn};
+ghost use Rattle.table.specs.Ask.{askedAt};
+ghost use Rattle.table.specs.Others.{othersOf};
+ghost use Rattle.table.specs.Places.{addressesOf};
+ghost use Rattle.table.specs.Receive.{heardAt};
+ghost use Rattle.table.specs.Rows.{recordsOf};
+ghost use Rattle.table.specs.Seat.{metOf};
+ghost use Rattle.table.specs.declared.rules.event.Event.the-variants as event;
+
+// A frame that was read.
+fn heard_at(s: Settings, table: &[u8], r: Reading) -> Change
+    requires { ⌜ length (now table) ≡ 512 ⌝ }
+    ensures { λ c. ⌜ metOf (recordsOf (now (table .entry))) c ≡ heardAt s (recordsOf (now (table .entry))) (addressesOf (recordsOf (now (table .entry)))) r ⌝ }
+{
+    match r {
+        Reading::Refused(n) => refused(n),
+        Reading::Discarded => settled(Answer::verdict(Turn::DISCARD)),
+        Reading::Admitted => settled(Answer::verdict(Turn::ADMIT)),
+        Reading::From {
+            peer,
+            group,
+            class,
+            heard,
+        } => {
+            let at = find(table, peer);
+            heard_from(
+                s,
+                vacancy(table, at),
+                at,
+                peer_at(table, at, peer),
+                group,
+                class,
+                heard,
+            )
+        }
+    }
+}
+
+// A primitive, by what it asks of the whole table.
+fn asked_in(s: Settings, table: &[u8], o: Others, primitive: u8, address: u64, code: u16) -> Change
+    requires { ⌜ length (now table) ≡ 512 ⌝ }
+    ensures { λ c. ⌜ (o ≡ othersOf s (recordsOf (now (table .entry))) → metOf (recordsOf (now (table .entry))) c ≡ askedAt s (recordsOf (now (table .entry))) (addressesOf (recordsOf (now (table .entry)))) primitive address code) ⌝ }
+{
+    let at = find(table, address);
+    asked_at(
+        s,
+        vacancy(table, at),
+        at,
+        peer_at(table, at, address),
+        o,
+        primitive,
+        address,
+        code,
+    )
+}
+
+// A received frame.
+#[no_mangle]
+pub extern "C" fn peer_receive(
+    table: &mut [u8],
+    s: Settings,
+    frame: &[u8],
+    out: &mut [u8],
+) -> Answer
+    ensures { λ r. ⌜ (r ≡ hostAnswer (now (table .entry)) s event.Frame (now (frame .entry)) (now (out .entry))) × (now (table .exit) ≡ hostTable (now (table .entry)) s event.Frame (now (frame .entry)) (now (out .entry))) × (now (out .exit) ≡ hostIn (now (table .entry)) s event.Frame (now (frame .entry)) (now (out .entry))) ⌝ }
+{
+    if out.len() < Frame::LONGEST {
+        return Answer::refusal(1);
+    }
+    if table.len() != 512 {
+        return Answer::refusal(2);
+    }
+    let v = survey(s, &*table);
+    if v.well {} else {
+        return Answer::refusal(2);
+    }
+    let c = heard_at(s, &*table, read(s.own, frame));
+    met(table, c);
+    let answer = c.answer;
+    let reply = c.reply;
+    answered(answer, reply, out)
+}
+
+// A primitive from our own side.
+#[no_mangle]
+pub extern "C" fn peer_ask(
+    table: &mut [u8],
+    s: Settings,
+    primitive: u8,
+    address: u64,
+    code: u16,
+    out: &mut [u8],
+) -> Answer
+    ensures { λ r. ⌜ (r ≡ hostAnswer (now (table .entry)) s (event.Ask primitive address code) [] (now (out .entry))) × (now (table .exit) ≡ hostTable (now (table .entry)) s (event.Ask primitive address code) [] (now (out .entry))) × (now (out .exit) ≡ hostIn (now (table .entry)) s (event.Ask primitive address code) [] (now (out .entry))) ⌝ }
+{
+    if out.len() < Frame::LONGEST {
+        return Answer::refusal(1);
+    }
+    if table.len() != 512 {
+        return Answer::refusal(2);
+    }
+    let v = survey(s, &*table);
+    if v.well {} else {
+        return Answer::refusal(2);
+    }
+    let o = others(s, v.associated, v.crowd);
+    let c = asked_in(s, &*table, o, primitive, address, code);
+    met(table, c);
+    let answer = c.answer;
+    let reply = c.reply;
+    answered(answer, reply, out)
+}
+
+// A clock step in TU.
+#[no_mangle]
+pub extern "C" fn peer_pass(table: &mut [u8], s: Settings, step: u16, out: &mut [u8]) -> Answer
+    ensures { λ r. ⌜ (r ≡ hostAnswer (now (table .entry)) s (event.Clock step) [] (now (out .entry))) × (now (table .exit) ≡ hostTable (now (table .entry)) s (event.Clock step) [] (now (out .entry))) × (now (out .exit) ≡ hostIn (now (table .entry)) s (event.Clock step) [] (now (out .entry))) ⌝ }
+{
+    if out.len() < 256 {
+        return Answer::refusal(1);
+    }
+    if table.len() != 512 {
+        return Answer::refusal(2);
+    }
+    let v = survey(s, &*table);
+    if v.well {} else {
+        return Answer::refusal(2);
+    }
+    if step == 0 {
+        return Answer::refusal(3);
+    }
+    let written = clock(s, table, step, out);
+    Answer::refusal(0).count(written)
+}

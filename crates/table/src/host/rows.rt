@@ -1,0 +1,182 @@
+// The table as a host lends it: 32 rows of 16 octets.
+use crate::rules::pass::put_report;
+use crate::rules::seat::Change;
+use crate::rules::seat::Found;
+use octets::row::Row;
+use octets::row::address_in;
+use octets::row::blank_at;
+use octets::row::put_row;
+use octets::row::row_at;
+use peer::association::parted;
+use peer::record::Record;
+use peer::record::exchange_number;
+use peer::record::exchange_of;
+use peer::settings::Settings;
+use peer::tick::tick;
+ghost use mathlib.Core.Path.{_≡_};
+ghost use mathlib.Core.Bool.{true};
+ghost use mathlib.Core.List.{map};
+ghost use lib.Dec.{ltb};
+ghost use lib.ListN.{length, getD, set};
+ghost use lib.Seq.{sets};
+ghost use Prim.Native.Nat.{_*_, _≤_};
+ghost use Rattle.octets.specs.Pick.{pick};
+ghost use Rattle.octets.specs.Row.{rowIn};
+ghost use Rattle.peer.specs.Association.{partedOf};
+ghost use Rattle.peer.specs.Record.{freeOf};
+ghost use Rattle.table.specs.Pass.{clockedOf, reportsOf};
+ghost use Rattle.table.specs.Places.{addressesOf, findOf, onFound};
+ghost use Rattle.table.specs.Rows.{recordOf, rowOf, recordsOf, octetsOf, isTable};
+ghost use Rattle.table.specs.Seat.{metOf, peerOf};
+ghost use Rattle.table.specs.declared.rules.seat.Found.the-variants as found;
+
+pub fn record_of(r: Row) -> Record
+    ensures { λ p. ⌜ p ≡ recordOf r ⌝ }
+{
+    Record {
+        address: r.address,
+        state: r.state,
+        exchange: exchange_of(r.exchange),
+        left: r.left,
+        hold: r.hold,
+    }
+}
+
+pub fn row_of(p: Record) -> Row
+    ensures { λ r. ⌜ r ≡ rowOf p ⌝ }
+{
+    let e = p.exchange;
+    Row {
+        address: p.address,
+        hold: p.hold,
+        left: p.left,
+        state: p.state,
+        exchange: exchange_number(e),
+    }
+}
+
+// The record at a place, or a free one where there is no such place.
+pub fn look(table: &[u8], i: usize) -> Record
+    ensures { λ p. ⌜ p ≡ getD (recordsOf (now (table .entry))) i freeOf ⌝ }
+{
+    if i < 32 {
+        record_of(row_at(table, 16 * i))
+    } else {
+        Record::free()
+    }
+}
+
+// Stores a record at a place, where there is such a place.
+pub fn store(table: &mut [u8], i: usize, p: Record)
+    ensures { λ _. ⌜ now (table .exit) ≡ pick (ltb i 32) (rowIn (16 * i) (rowOf p) (now (table .entry))) (now (table .entry)) ⌝ }
+{
+    if i < 32 {
+        put_row(table, 16 * i, row_of(p));
+    }
+}
+
+// The lowest place with an address. Of 0: the lowest free place.
+pub(crate) fn find(table: &[u8], address: u64) -> Found
+    requires { ⌜ length (now table) ≡ 512 ⌝ }
+    ensures { λ r. ⌜ r ≡ findOf (addressesOf (recordsOf (now (table .entry)))) address ⌝ }
+{
+    // Never so, by the contract. It tells the compiler the length: no row is tested for room.
+    if table.len() != 512 {
+        return Found::Nothing;
+    }
+    let mut i = 0;
+    while i < 32 {
+        if address_in(table, 16 * i) == address {
+            return Found::At(i);
+        }
+        i += 1;
+    }
+    Found::Nothing
+}
+
+// The lowest free place, looked up only for a peer that has no record.
+pub(crate) fn vacancy(table: &[u8], at: Found) -> Found
+    requires { ⌜ length (now table) ≡ 512 ⌝ }
+    ensures { λ r. ⌜ r ≡ onFound at (findOf (addressesOf (recordsOf (now (table .entry)))) 0) (λ i. found.Nothing) ⌝ }
+{
+    match at {
+        Found::At(_) => Found::Nothing,
+        Found::Nothing => find(table, 0),
+    }
+}
+
+// The record of a peer, or a fresh one.
+pub fn peer_at(table: &[u8], at: Found, address: u64) -> Record
+    ensures { λ r. ⌜ r ≡ peerOf (recordsOf (now (table .entry))) at address ⌝ }
+{
+    match at {
+        Found::Nothing => Record::fresh(address),
+        Found::At(i) => look(table, i),
+    }
+}
+
+// Every record in State 3 or 4 goes to State 2.
+fn part_all(table: &mut [u8])
+    requires { ⌜ length (now table) ≡ 512 ⌝ }
+    ensures { λ _. ⌜ now (table .exit) ≡ octetsOf (map partedOf (recordsOf (now (table .entry)))) ⌝ }
+{
+    let mut i = 0;
+    while i < 32 {
+        let p = look(&*table, i);
+        let q = parted(p);
+        store(&mut *table, i, q);
+        i += 1;
+    }
+}
+
+// Stores a record at a place, and parts any other where it is so.
+fn stored(table: &mut [u8], i: usize, p: Record, sole: bool)
+    requires { ⌜ length (now table) ≡ 512 ⌝ }
+    ensures { λ _. ⌜ (isTable (now (table .entry)) ≡ true → now (table .exit) ≡ octetsOf (set (pick sole (map partedOf (recordsOf (now (table .entry)))) (recordsOf (now (table .entry)))) i p)) ⌝ }
+{
+    if sole {
+        part_all(&mut *table);
+        store(table, i, p);
+        return;
+    }
+    store(table, i, p);
+}
+
+// A table with a change.
+pub(crate) fn met(table: &mut [u8], c: Change)
+    ensures { λ _. ⌜ (isTable (now (table .entry)) ≡ true → now (table .exit) ≡ octetsOf (metOf (recordsOf (now (table .entry))) c .table)) ⌝ }
+{
+    if table.len() != 512 {
+        return;
+    }
+    let place = c.place;
+    match place {
+        Found::Nothing => {}
+        Found::At(i) => {
+            let p = c.peer;
+            stored(table, i, p, c.sole);
+        }
+    }
+}
+
+// A clock step at each place in turn: every time falls, and what ended is reported. Gives how many octets of reports were written.
+pub(crate) fn clock(s: Settings, table: &mut [u8], d: u16, out: &mut [u8]) -> u16
+    requires { ⌜ (length (now table) ≡ 512) × (256 ≤ length (now out)) ⌝ }
+    ensures { λ r. ⌜ (r ≡ clockedOf s (recordsOf (now (table .entry))) d .written) × (now (table .exit) ≡ octetsOf (clockedOf s (recordsOf (now (table .entry))) d .table)) × (now (out .exit) ≡ sets (now (out .entry)) 0 (reportsOf s d 0 (recordsOf (now (table .entry))))) ⌝ }
+{
+    let mut n = 0;
+    let mut i = 0;
+    while i < 32 {
+        let at = i;
+        i += 1;
+        // A free place has nothing to wait for.
+        if blank_at(&*table, 16 * at) {} else {
+            let p = look(&*table, at);
+            let q = tick(s, p, d);
+            n = put_report(&mut *out, n, at as u8, q.report, p.address);
+            let after = q.peer;
+            store(&mut *table, at, after);
+        }
+    }
+    n as u16
+}

@@ -1,0 +1,10 @@
+// The table held as thirty-two records: by value, and lent as a slice.
+pub mod ask;
+pub mod distinct;
+pub mod fit;
+pub mod lent;
+pub mod pass;
+pub mod places;
+pub mod receive;
+pub mod seat;
+pub mod step;

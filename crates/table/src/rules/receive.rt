@@ -1,0 +1,31 @@
+// A frame's rules, by what the table has of its peer.
+use crate::rules::seat::Change;
+use crate::rules::seat::Found;
+use crate::rules::seat::turn_in;
+use octets::class::FrameClass;
+use octets::heard::Heard;
+use peer::authentication::full;
+use peer::hear::hear;
+use peer::record::Record;
+use peer::settings::Settings;
+ghost use mathlib.Core.Path.{_≡_};
+ghost use mathlib.Core.List.{List};
+ghost use Rattle.peer.specs.Authentication.{fullOf};
+ghost use Rattle.peer.specs.Hear.{hearOf};
+ghost use Rattle.peer.specs.declared.record.Record.{Record as Peer};
+ghost use Rattle.table.specs.Seat.{metOf, turnIn};
+
+// A frame from a peer that was found at a place, or nowhere, with the lowest free place.
+pub(crate) fn heard_from(
+    s: Settings,
+    free: Found,
+    at: Found,
+    p: Record,
+    group: bool,
+    class: FrameClass,
+    h: Heard,
+) -> Change
+    ensures { λ r. ⌜ ((t : List Peer) → metOf t r ≡ turnIn t at free (hearOf s p class group h) (fullOf s p)) ⌝ }
+{
+    turn_in(free, at, hear(s, p, class, group, h), full(s, p))
+}
