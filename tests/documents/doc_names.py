@@ -4,8 +4,8 @@ import re
 
 from . import names
 
-DOCUMENTS = ("README.md", "docs/DECISIONS.md", "docs/PROMISES.md", "docs/READING.md",
-             "docs/TRACE.md")
+DOCUMENTS = ("README.md", "docs/DECISIONS.md", "docs/FAULTS.md", "docs/PROMISES.md",
+             "docs/READING.md", "docs/TRACE.md")
 LINK = re.compile(r"\]\((?!http)([^)#\s]*)(?:#([^)\s]+))?\)")
 HEADING = re.compile(r"^#+ (.+)$", re.MULTILINE)
 # A path, and perhaps a name of it: `crates/peer/specs/Filter.antt: passesOf`.
@@ -23,6 +23,7 @@ IN_ALL = re.compile(r"In all: (\d+) minutes")
 MODULE = re.compile(r"\| \*\*`([\w:]+)`\*\* \| ([^|]*)\|")
 FUNCTION = re.compile(r"\| `(?:\w+::)?(\w+)\(")
 GIVES = re.compile(r"(?:gives|result|buffer|is) `(\w+)")
+FAULT = re.compile(r"^\| `(\w+/\w+)` \|[^|]*\| (gate|faults) \|", re.MULTILINE)
 SPEC = re.compile(r"`(?:(\w+)/)?specs/(\w+)\.antt`")
 
 
@@ -106,7 +107,19 @@ def function_row(crate, module, heads, line):
             yield f"`{name}` of {module} is not in {', '.join(map(names.shown, specs))}"
     for edit in names.TOKEN.findall(cells[3]) if len(cells) > 3 else ():
         if f"{crate}/{edit}" not in names.edits():
-            yield f"crates/{crate}/must-fail has no edit {edit}"
+            yield f"{crate} has no edit {edit}"
+
+
+def every_fault(text):
+    """docs/FAULTS.md: every edit has one row, which says where it stands."""
+    rows = [(name, place == "gate") for name, place in FAULT.findall(text)]
+    yield from (f"`{name}` has two rows" for name in {name for name, _ in rows}
+                if sum(other == name for other, _ in rows) > 1)
+    there = {(name, True) for name in names.gate_edits()}
+    there |= {(name, False) for name in names.other_edits()}
+    for name, gate in sorted(there ^ set(rows)):
+        what = "is an edit without such a row" if (name, gate) in there else "is no such edit"
+        yield f"`{name}`, {'the gate' if gate else 'tests/faults'}: {what}"
 
 
 def reading_order(text):
@@ -124,7 +137,8 @@ def reading_order(text):
 
 
 FOR_ALL = (beside_a_file, leads_somewhere)
-OWN_CHECKS = {"README.md": (), "docs/PROMISES.md": (is_somewhere, promised),
+OWN_CHECKS = {"README.md": (), "docs/FAULTS.md": (every_fault,),
+              "docs/PROMISES.md": (is_somewhere, promised),
               "docs/READING.md": (is_somewhere, reading_order)}
 
 

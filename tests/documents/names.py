@@ -1,4 +1,4 @@
-"""Where a name of the documents is defined: specs, proofs, code, stored cases, must-fail edits."""
+"""Where a name of the documents is defined: specs, proofs, code, stored cases, edits."""
 
 import functools
 import pathlib
@@ -46,10 +46,21 @@ def defined_somewhere(name, folder):
 
 
 @functools.lru_cache(maxsize=None)
-def edits():
-    """Each must-fail edit as CRATE/NAME."""
+def gate_edits():
+    """Each edit that the gate tries, as CRATE/NAME."""
     return {f"{crate}/{path.stem}" for crate in CRATES
             for path in (ROOT / "crates" / crate / "must-fail").glob("*.edit")}
+
+
+@functools.lru_cache(maxsize=None)
+def other_edits():
+    """Each edit that tests/faults/try alone tries, as CRATE/NAME."""
+    return {f"{path.parent.name}/{path.stem}"
+            for path in (ROOT / "tests" / "faults").glob("*/*.edit")}
+
+
+def edits():
+    return gate_edits() | other_edits()
 
 
 @functools.lru_cache(maxsize=None)

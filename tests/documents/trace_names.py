@@ -3,7 +3,8 @@ python3 -m tests.documents.trace_names.
 
 A row has a rule, what defines it and what exercises it; how it names things is said at the head of
 docs/TRACE.md. A name must be defined in its file, and a case, edit or test must be there. Every row
-names something in both columns or says `to come`; every case and every edit stands in some row.
+names something in both columns or says `to come`; every case and every edit of the gate stands in
+some row.
 """
 
 import re
@@ -85,7 +86,7 @@ def main():
             for word, token in found:
                 faults += [f"TRACE.md, line {number}: {fault}" for fault in check(word, token)]
                 used.get(word, set()).add(token)
-    for what, there_are in (("case", names.cases()), ("edit", names.edits())):
+    for what, there_are in (("case", names.cases()), ("edit", names.gate_edits())):
         faults += [f"TRACE.md: no row names the {what} `{name}`"
                    for name in sorted(there_are - used[what])]
     faults += doc_names.faults()
