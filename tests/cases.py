@@ -1,4 +1,4 @@
-"""Runs the stored cases: cases.py --bench CMD [--trace-too[=WORD]] [NAME ...].
+"""Runs the stored cases: python3 -m tests.cases --bench CMD [--trace-too[=WORD]] [NAME ...].
 
 A case is a folder of tests/cases: `about` says in one line what it shows, `input.hex` is the
 bench input, one record a line and `#` to the end of a line a comment, `stdout` is what the

@@ -2,11 +2,11 @@
 
 import collections
 
-from labels import TEXT_AT, mark
-from scenes import ACK, COMEBACK_0, COMEBACK_5, JOIN, NO_COMEBACK, PARTS
-from states import FILLS
-from svg import AMBER, BLUE, GREEN, INK, MUTED, PAPER, RED, SIZE, Canvas, width_of
-from words import REFUSALS, frame_words, notice_words, primitive_words
+from .labels import TEXT_AT, mark
+from .scenes import ACK, COMEBACK_0, COMEBACK_5, JOIN, NO_COMEBACK, PARTS
+from .states import FILLS
+from .svg import AMBER, BLUE, GREEN, INK, MUTED, PAPER, RED, SIZE, Canvas, width_of
+from .words import REFUSALS, frame_words, notice_words, primitive_words
 
 ROW, LINE = 34, 16
 TOP = 92

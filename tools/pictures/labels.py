@@ -2,7 +2,7 @@
 
 import collections
 
-from svg import AMBER, BLUE, MUTED, PAPER, width_of
+from .svg import AMBER, BLUE, MUTED, PAPER, width_of
 
 LINE = 19
 TEXT_AT = 25

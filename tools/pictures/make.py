@@ -1,10 +1,11 @@
-"""Makes the pictures of docs/pictures; with --check it names those that are otherwise."""
+"""Makes the pictures of docs/pictures: python3 -m tools.pictures.make.
+
+With --check it names those that are otherwise.
+"""
 
 import sys
 
-import charts
-import move_list
-import states
+from . import charts, move_list, states
 
 FOLDER = move_list.LIST.parent
 

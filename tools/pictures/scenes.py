@@ -1,16 +1,12 @@
 """The scenes of the message charts: events, and what the program must answer to each.
 
-tests/pictures.py plays them. In the join two tables talk to each other: what one writes is what the
+tests/pictures/check.py plays them. In the join two tables talk to each other: what one writes is what the
 other hears, octet for octet.
 """
 
 import collections
-import sys
 
-from move_list import ROOT
-
-sys.path.append(str(ROOT / "tests"))
-import bench_input as bench
+from tools import bench_input as bench
 
 AP = bench.address("02:00:00:00:00:01")
 STATION = bench.address("02:00:00:00:00:0a")

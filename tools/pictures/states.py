@@ -2,10 +2,10 @@
 
 import collections
 
-from labels import Label, block, block_size, mark
-from move_list import Fault
-from notes import NOTES, belied
-from svg import AMBER, MUTED, PAPER, Canvas
+from .labels import Label, block, block_size, mark
+from .move_list import Fault
+from .notes import NOTES, belied
+from .svg import AMBER, MUTED, PAPER, Canvas
 
 WIDTH, HEIGHT = 1112, 930
 BOX_X, BOX_WIDTH, BOX_HEIGHT = 250, 282, 68
@@ -156,7 +156,7 @@ def legend(canvas, holds):
         canvas.text(x, y, "DS", fill=MUTED)
         canvas.text(x + 30, y, "the distribution system")
     canvas.text(34, y + 26, "Every move there is: docs/pictures/moves.txt, held against the "
-                "program by tests/moves.py. What is not shown moves no state.", 11.5, fill=MUTED)
+                "program by tests/pictures/moves.py. What is not shown moves no state.", 11.5, fill=MUTED)
 
 
 def picture(role, moves, passes):

@@ -8,7 +8,7 @@ from . import answers, manual, read, show
 
 USAGE = "scenario [--table | --lines | --octets] FILE, or scenario --help"
 OPTIONS = ("--table", "--lines", "--octets")
-BENCH = [str(pathlib.Path(__file__).resolve().parents[2] / "tests" / "bench")]
+BENCH = [str(pathlib.Path(__file__).resolve().parents[2] / "bench")]
 
 
 class UsageFault(Exception):

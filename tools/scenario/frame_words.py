@@ -2,7 +2,7 @@
 
 import collections
 
-import bench_input as bench
+from tools import bench_input as bench
 
 Word = collections.namedtuple("Word", "word type subtype class_ about")
 Field = collections.namedtuple("Field", "name kind highest about")

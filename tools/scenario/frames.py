@@ -1,6 +1,6 @@
 """Frames from words and words from frames; the octets are laid out by bench_input."""
 
-import bench_input as bench
+from tools import bench_input as bench
 
 from . import frame_words
 from .values import Fault

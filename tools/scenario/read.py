@@ -2,7 +2,7 @@
 
 import collections
 
-import bench_input as bench
+from tools import bench_input as bench
 
 from . import frame_words, frames, primitives
 from .values import Fault, Names, number, octets, one_of

@@ -3,7 +3,7 @@
 import difflib
 import re
 
-import bench_input as bench
+from tools import bench_input as bench
 
 NUMBER = re.compile(r"[0-9]+|0x[0-9a-fA-F]+")
 OCTETS = re.compile(r"((?:[0-9a-fA-F]{2})+)(?:\*([0-9]+))?")

@@ -1,6 +1,6 @@
 """An answer in words: what was decided, told and sent, and what became of the records."""
 
-import bench_input as bench
+from tools import bench_input as bench
 
 from . import codes, frame_words, frames, merge
 

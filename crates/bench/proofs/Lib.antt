@@ -1,4 +1,11 @@
 pub mod Digits
+pub mod Events
+pub mod LentStep
 pub mod Lines
+pub mod Moves
+pub mod Outputs
+pub mod Pending
 pub mod Puts
+pub mod Refills
+pub mod TableLines
 pub mod TraceLines

@@ -1,10 +1,10 @@
 -- 01, "The bench program": "Standard input holds records: mark 0B 03, kind (1 octet), length (2), body; numbers little-endian."
 -- Assumes nothing.
-use Prim.Native.Nat.{ℕ, _-_}
+use Prim.Native.Nat.{ℕ, _+_, _-_}
 use mathlib.Core.Bool.{Bool, not, _&&_}
-use mathlib.Core.List.{List}
+use mathlib.Core.List.{List, []}
 use lib.Dec.{ltb, leb, eqb}
-use lib.ListN.{length}
+use lib.ListN.{length, take, drop}
 use Rattle.octets.specs.Pick.{pick}
 use Rattle.octets.specs.Field.{field}
 use Rattle.peer.specs.declared.settings.Settings.{Settings}
@@ -49,3 +49,10 @@ takenOf xs first =
     (pick (not (lengthAllowed first (field 1 2 xs) (field 2 3 xs))) Fault
     (pick (ltb (length xs - 5) (field 2 3 xs)) Cut
     (pick first (First (settingsAt xs)) (Next (eventAt xs (field 1 2 xs)))))))
+
+-- The octets of a record: its head of 5 and its body. Its body, none where it is not there whole.
+abbrev pub sizeOf : List ℕ → ℕ
+sizeOf xs = field 2 3 xs + 5
+
+unfoldable pub bodyOf : List ℕ → List ℕ
+bodyOf xs = pick (leb (sizeOf xs) (length xs)) (take (field 2 3 xs) (drop 5 xs)) []

@@ -3,8 +3,7 @@
 -- Assumes nothing.
 use Prim.Native.Nat.{ℕ}
 use mathlib.Core.List.{List, [], _∷_, _++_}
-use lib.Dec.{ltb, eqb}
-use lib.ListN.{length, drop}
+use lib.Dec.{eqb}
 use Rattle.octets.specs.Pick.{pick}
 use Rattle.table.specs.declared.rules.answer.Answer.{Answer}
 use Rattle.bench.specs.Text.{tens, fieldOf, letterOf}
@@ -30,19 +29,6 @@ backOf a =
 unfoldable pub lineOf : ℕ → Answer → List ℕ
 lineOf number a = frontOf number a ++ backOf a
 
--- What writing a line gives, lent a buffer of n octets, and what it leaves in a buffer: under 64 octets nothing is written.
-unfoldable pub lineLength : ℕ → Answer → ℕ → ℕ
-lineLength number a n = pick (ltb n 64) 0 (length (lineOf number a))
-
-unfoldable pub lineIn : ℕ → Answer → List ℕ → List ℕ
-lineIn number a l = pick (ltb (length l) 64) l (lineOf number a ++ drop (length (lineOf number a)) l)
-
 -- "prints `stop` and ends"
 abbrev pub stopLine : List ℕ
 stopLine = 115 ∷ 116 ∷ 111 ∷ 112 ∷ 10 ∷ []
-
-unfoldable pub stopLength : ℕ → ℕ
-stopLength n = pick (ltb n 64) 0 5
-
-unfoldable pub stopIn : List ℕ → List ℕ
-stopIn l = pick (ltb (length l) 64) l (stopLine ++ drop 5 l)

@@ -1,8 +1,10 @@
--- Text: numbers in decimal, in ASCII.
+-- Text: numbers in decimal and in hexadecimal, in ASCII.
 -- Assumes nothing.
 use Prim.Native.Nat.{ℕ, zero, suc, _+_, _/_, _%_}
 use mathlib.Core.List.{List, [], _∷_, _++_}
-use lib.Dec.{ltb}
+use mathlib.Core.Bool.{Bool, _&&_}
+use lib.Dec.{ltb, eqb}
+use lib.ListN.{length, getD}
 use Rattle.octets.specs.Pick.{pick}
 
 -- A number in decimal, of at most k digits, the highest first and none of them a leading 0.
@@ -29,3 +31,8 @@ hexOctet v = glyphOf (v / 16) ∷ glyphOf (v % 16) ∷ []
 unfoldable pub hexOf : List ℕ → List ℕ
 hexOf [] = []
 hexOf (v ∷ vs) = hexOctet v ++ hexOf vs
+
+-- The word "trace".
+unfoldable pub isTrace : List ℕ → Bool
+isTrace w =
+    eqb (length w) 5 && (eqb (getD w 0 0) 116 && (eqb (getD w 1 0) 114 && (eqb (getD w 2 0) 97 && (eqb (getD w 3 0) 99 && eqb (getD w 4 0) 101))))

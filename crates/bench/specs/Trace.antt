@@ -1,14 +1,15 @@
 -- The trace: lines behind an event's line, for what it does not show.
 -- Assumes nothing.
 use Prim.Native.Nat.{ℕ, _+_, _*_}
-use mathlib.Core.Bool.{_||_}
 use mathlib.Core.List.{List, [], _∷_, _++_}
-use lib.Dec.{ltb}
-use lib.ListN.{length, drop}
+use lib.Dec.{ltb, eqb}
+use lib.ListN.{length, take}
 use Rattle.octets.specs.Pick.{pick}
 use Rattle.octets.specs.Field.{octets}
-use Rattle.peer.specs.Record.{exchangeNumber}
+use Rattle.peer.specs.Record.{exchangeNumber, isFree}
 use Rattle.peer.specs.declared.record.Record.{Record}
+use Rattle.table.specs.declared.rules.answer.Answer.{Answer}
+use Rattle.bench.specs.Output.{Line, short}
 use Rattle.bench.specs.Text.{tens, fieldOf, hexOf}
 
 -- "  octets " and the octets written
@@ -39,21 +40,28 @@ timesOf p =
 unfoldable pub placeLine : ℕ → Record → List ℕ
 placeLine place p = nameOf place p ++ timesOf p
 
--- What writing each line gives, lent a buffer of n octets, and what it leaves in a buffer: where there is little room, nothing is written.
-unfoldable pub octetsLength : List ℕ → ℕ → ℕ
-octetsLength vs n = pick (ltb 4096 (length vs) || ltb n (2 * length vs + 64)) 0 (length (octetsLine vs))
+-- A line of n octets in hexadecimal is under 2 n + 64 octets long.
+abbrev pub octetsPut : List ℕ → Line
+octetsPut vs = record { room = 2 * length vs + 64; text = octetsLine vs }
 
-unfoldable pub octetsIn : List ℕ → List ℕ → List ℕ
-octetsIn vs l = pick (ltb 4096 (length vs) || ltb (length l) (2 * length vs + 64)) l (octetsLine vs ++ drop (length (octetsLine vs)) l)
+-- "octets written": where an event wrote any
+unfoldable pub octetsLines : ℕ → List ℕ → List Line
+octetsLines written scratch =
+    pick (eqb written 0) []
+    (pick (ltb 256 written) [] (octetsPut (take written scratch) ∷ []))
 
-unfoldable pub currentLength : ℕ → ℕ → ℕ
-currentLength a n = pick (ltb n 64) 0 (length (currentLine a))
+-- "current": a reassociation's indication, notice 7
+unfoldable pub currentLines : Answer → List Line
+currentLines a = pick (eqb (a .notice) 7) (short (currentLine (a .current)) ∷ []) []
 
-unfoldable pub currentIn : ℕ → List ℕ → List ℕ
-currentIn a l = pick (ltb (length l) 64) l (currentLine a ++ drop (length (currentLine a)) l)
+-- "place": those that are not free, in rising order
+unfoldable pub placeLines : ℕ → Record → List Line
+placeLines i p = pick (isFree p) [] (short (placeLine i p) ∷ [])
 
-unfoldable pub placeLength : ℕ → Record → ℕ → ℕ
-placeLength place p n = pick (ltb n 64) 0 (length (placeLine place p))
+unfoldable pub tableLines : ℕ → List Record → List Line
+tableLines i [] = []
+tableLines i (p ∷ t) = placeLines i p ++ tableLines (i + 1) t
 
-unfoldable pub placeIn : ℕ → Record → List ℕ → List ℕ
-placeIn place p l = pick (ltb (length l) 64) l (placeLine place p ++ drop (length (placeLine place p)) l)
+-- What the trace shows of an event: its answer, the scratch and the table after it.
+unfoldable pub traceLines : Answer → List ℕ → List Record → List Line
+traceLines a scratch t = octetsLines (a .written) scratch ++ currentLines a ++ tableLines 0 t

@@ -1,14 +1,17 @@
 // The line of an event, and the line that ends a damaged input.
+use crate::text::has_room;
 use crate::text::put_field;
 use crate::text::put_letter;
 use crate::text::put_octet;
 use crate::text::put_tens;
+use crate::text::put_word;
 use table::rules::answer::Answer;
 ghost use mathlib.Core.Path.{_≡_};
 ghost use Prim.Native.Nat.{_+_, _≤_};
 ghost use lib.ListN.{length};
 ghost use Rattle.octets.specs.Stored.{Stored};
-ghost use Rattle.bench.specs.Line.{verdictLetter, dsLetter, frontOf, backOf, lineLength, lineIn, stopLength, stopIn};
+ghost use Rattle.bench.specs.Line.{verdictLetter, dsLetter, frontOf, backOf, lineOf, stopLine};
+ghost use Rattle.bench.specs.Output.{short, upTo, putOf};
 
 // A, D or -.
 fn verdict_letter(verdict: u8) -> u8
@@ -37,11 +40,11 @@ fn ds_letter(ds: u8) -> u8
 }
 
 // Event number, refusal, verdict, notice.
-fn put_front(out: &mut [u8], number: u64, a: Answer) -> usize
-    requires { ⌜ 64 ≤ length (now out) ⌝ }
-    ensures { λ r. ⌜ (r ≡ length (frontOf number a)) × (Stored (now (out .entry)) 0 (frontOf number a) (now (out .exit))) ⌝ }
+fn put_front(out: &mut [u8], at: usize, number: u64, a: Answer) -> usize
+    requires { ⌜ at + 64 ≤ length (now out) ⌝ }
+    ensures { λ r. ⌜ (r ≡ at + length (frontOf number a)) × (Stored (now (out .entry)) at (frontOf number a) (now (out .exit))) ⌝ }
 {
-    let p1 = put_field(out, 0, number, 20);
+    let p1 = put_field(out, at, number, 20);
     let p2 = put_field(out, p1, a.refusal as u64, 3);
     let p3 = put_letter(out, p2, verdict_letter(a.verdict));
     put_field(out, p3, a.notice as u64, 3)
@@ -60,28 +63,23 @@ fn put_back(out: &mut [u8], at: usize, a: Answer) -> usize
     p4 + 1
 }
 
-// Writes an event's line at the front of the buffer and gives its length; a buffer under 64 octets stays as it was, and the answer is 0.
-pub fn write_line(out: &mut [u8], number: u64, a: Answer) -> usize
-    ensures { λ r. ⌜ (r ≡ lineLength number a (length (now (out .entry)))) × (now (out .exit) ≡ lineIn number a (now (out .entry))) ⌝ }
+// Writes an event's line behind the first `at` octets of the buffer and gives where it ends; where fewer than 64 are left, nothing and `at`.
+pub fn write_line(out: &mut [u8], at: usize, number: u64, a: Answer) -> usize
+    ensures { λ r. ⌜ upTo (now (out .exit)) r ≡ putOf (short (lineOf number a)) (upTo (now (out .entry)) at) ⌝ }
 {
-    if out.len() < 64 {
-        return 0;
+    if has_room(out.len(), at, 64) {} else {
+        return at;
     }
-    let at = put_front(out, number, a);
-    put_back(out, at, a)
+    let next = put_front(out, at, number, a);
+    put_back(out, next, a)
 }
 
-// Writes the line `stop` at the front of the buffer and gives its length; a buffer under 64 octets stays as it was, and the answer is 0.
-pub fn write_stop(out: &mut [u8]) -> usize
-    ensures { λ r. ⌜ (r ≡ stopLength (length (now (out .entry)))) × (now (out .exit) ≡ stopIn (now (out .entry))) ⌝ }
+// The same of the line `stop`.
+pub fn write_stop(out: &mut [u8], at: usize) -> usize
+    ensures { λ r. ⌜ upTo (now (out .exit)) r ≡ putOf (short stopLine) (upTo (now (out .entry)) at) ⌝ }
 {
-    if out.len() < 64 {
-        return 0;
+    if has_room(out.len(), at, 64) {} else {
+        return at;
     }
-    put_octet(out, 0, b's');
-    put_octet(out, 1, b't');
-    put_octet(out, 2, b'o');
-    put_octet(out, 3, b'p');
-    put_octet(out, 4, b'\n');
-    5
+    put_word(out, at, b"stop\n")
 }

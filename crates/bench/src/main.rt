@@ -1,5 +1,6 @@
 // The bench program: records on standard input, one line an event on standard output.
 mod input;
+mod lent;
 mod line;
 mod play;
 mod run;
@@ -9,6 +10,8 @@ mod trace;
 
 use run::Run;
 use run::round;
+ghost use mathlib.Core.Path.{_≡_};
+ghost use Rattle.bench.specs.Text.{isTrace};
 
 // A proved loop has to end, and nothing says that an input does: so the turns are counted down from a number that no run uses up.
 fn run_all(trace: bool) {
@@ -33,7 +36,9 @@ enum Mode {
 }
 
 // Whether a word is `trace`.
-fn is_trace(word: &[u8]) -> bool {
+fn is_trace(word: &[u8]) -> bool
+    ensures { λ r. ⌜ r ≡ isTrace (now (word .entry)) ⌝ }
+{
     if word.len() != 5 {
         return false;
     }

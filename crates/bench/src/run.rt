@@ -2,20 +2,27 @@
 use crate::input::Taken;
 use crate::input::record_length;
 use crate::input::take;
+use crate::lent::lent_play;
 use crate::line::write_line;
 use crate::line::write_stop;
+use crate::play::Played;
 use crate::play::play;
-use crate::show::behind;
 use crate::show::traced;
+use crate::text::has_room;
 use libc::STDIN_FILENO;
 use libc::STDOUT_FILENO;
 use peer::record::Record;
 use peer::settings::Settings;
 use table::rules::event::Event;
 ghost use mathlib.Core.Path.{_≡_};
-ghost use Prim.Native.Nat.{_≤_};
+ghost use mathlib.Core.Bool.{true};
 ghost use lib.ListN.{length};
-ghost use Rattle.bench.specs.Play.{numberAfter};
+ghost use Rattle.peer.specs.Record.{freeOf};
+ghost use Rattle.bench.specs.Input.{bodyOf};
+ghost use Rattle.table.specs.Step.{stepOf, stepIn};
+ghost use Rattle.bench.specs.Play.{zeros, numberAfter};
+ghost use Rattle.bench.specs.Run.{startOf, behindOf, begunOf, eventOf, eventOutput, flushedOf, stoppedIn, leftOf, shiftedOf};
+ghost use Rattle.bench.specs.Turn.{Refilled, Short, TurnOf, Rounded};
 
 // Where a run stands. Of the input buffer the octets from `at` to `have` are still to be taken; of the output buffer the first `out` are
 // lines still to be written.
@@ -34,8 +41,17 @@ pub struct Run {
     pub trace: bool,
 }
 
+// A place of the table before any event.
+fn vacant() -> Record
+    ensures { λ p. ⌜ p ≡ freeOf ⌝ }
+{
+    Record::free()
+}
+
 impl Run {
-    pub fn new(trace: bool) -> Run {
+    pub fn new(trace: bool) -> Run
+        ensures { λ q. ⌜ q ≡ startOf trace ⌝ }
+    {
         Run {
             settings: Settings {
                 own: 0,
@@ -44,7 +60,7 @@ impl Run {
                 role: 0,
                 rsna: 0,
             },
-            table: [Record::free(); 32],
+            table: [vacant(); 32],
             number: 0,
             at: 0,
             have: 0,
@@ -57,8 +73,17 @@ impl Run {
     }
 }
 
+// Where one stands n octets behind `at`, of `have`.
+fn behind(at: usize, n: usize, have: usize) -> usize
+    ensures { λ q. ⌜ q ≡ behindOf at n have ⌝ }
+{
+    if has_room(have, at, n) { at + n } else { have }
+}
+
 // Writes out the lines of the buffer.
-fn flush(output: &[u8], r: Run) -> Run {
+fn flush(output: &[u8], r: Run) -> Run
+    ensures { λ q. ⌜ q ≡ flushedOf r (q .done) ⌝ }
+{
     let out = r.out;
     let mut next = r;
     next.out = 0;
@@ -75,27 +100,26 @@ fn flush(output: &[u8], r: Run) -> Run {
 }
 
 // Writes out the lines, and ends the run.
-fn finish(output: &[u8], r: Run) -> Run {
+fn finish(output: &[u8], r: Run) -> Run
+    ensures { λ q. ⌜ q ≡ flushedOf r true ⌝ }
+{
     let mut next = flush(output, r);
     next.done = true;
     next
 }
 
 // Ends the run with the line `stop`.
-fn stop(output: &mut [u8], r: Run) -> Run {
-    let out = r.out;
-    if output.len() < out {
-        return finish(output, r);
-    }
-    let n = write_stop(&mut output[out..]);
+fn stop(output: &mut [u8], r: Run) -> Run
+    ensures { λ q. ⌜ (q ≡ flushedOf r true) × (now (output .exit) ≡ stoppedIn r (now (output .entry))) ⌝ }
+{
     let mut next = r;
-    next.out = behind(out, n, output.len());
+    next.out = write_stop(output, r.out);
     finish(output, next)
 }
 
 // Moves the octets from `at` to `have` to the front of the buffer, and gives how many there are.
 fn shift(input: &mut [u8], at: usize, have: usize) -> usize
-    ensures { λ r. ⌜ r ≤ length (now (input .exit)) ⌝ }
+    ensures { λ n. ⌜ (n ≡ leftOf at have (length (now (input .entry)))) × (now (input .exit) ≡ shiftedOf at have (now (input .entry))) ⌝ }
 {
     if input.len() < have {
         return 0;
@@ -112,7 +136,9 @@ fn shift(input: &mut [u8], at: usize, have: usize) -> usize
 }
 
 // Reads on behind what is left.
-fn refill(input: &mut [u8], output: &[u8], r: Run) -> Run {
+fn refill(input: &mut [u8], output: &[u8], r: Run) -> Run
+    ensures { λ q. ⌜ Refilled (now (input .entry)) r (now (input .exit)) q ⌝ }
+{
     let mut next = r;
     let left = shift(input, r.at, r.have);
     let got = libc::read(STDIN_FILENO, &mut input[left..]);
@@ -127,7 +153,9 @@ fn refill(input: &mut [u8], output: &[u8], r: Run) -> Run {
 }
 
 // A record that is not there whole: more is read, unless the input came to its end.
-fn cut(input: &mut [u8], output: &mut [u8], r: Run) -> Run {
+fn cut(input: &mut [u8], output: &mut [u8], r: Run) -> Run
+    ensures { λ q. ⌜ Short (now (input .entry)) (now (output .entry)) r (now (input .exit)) (now (output .exit)) q ⌝ }
+{
     if r.over {
         if r.at == r.have {
             finish(output, r)
@@ -140,7 +168,9 @@ fn cut(input: &mut [u8], output: &mut [u8], r: Run) -> Run {
 }
 
 // The settings record was taken.
-fn begin(r: Run, s: Settings) -> Run {
+fn begin(r: Run, s: Settings) -> Run
+    ensures { λ q. ⌜ q ≡ begunOf r s ⌝ }
+{
     let mut next = r;
     next.settings = s;
     next.first = false;
@@ -155,34 +185,44 @@ fn counted(n: u64) -> u64
     if n == u64::MAX { n } else { n + 1 }
 }
 
+// An event, played: by value, or under a trace with the records lent.
+fn played(trace: bool, s: Settings, t: [Record; 32], e: Event, frame: &[u8]) -> Played
+    ensures { λ p. ⌜ (p .table ≡ stepOf s t e (now (frame .entry)) 256 .table) × (p .answer ≡ stepOf s t e (now (frame .entry)) 256 .answer) × (p .scratch ≡ stepIn s t e (now (frame .entry)) zeros) ⌝ }
+{
+    if trace {
+        return lent_play(s, t, e, frame);
+    }
+    play(s, t, e, frame)
+}
+
 // An event was taken: it is played, and its line goes to the output. The record has `size` octets, its body is `frame`.
-fn event(output: &mut [u8], r: Run, e: Event, frame: &[u8], size: usize) -> Run {
+fn event(output: &mut [u8], r: Run, e: Event, frame: &[u8], size: usize) -> Run
+    ensures { λ q. ⌜ (q ≡ eventOf r e (now (frame .entry)) size (now (output .entry))) × (now (output .exit) ≡ eventOutput r e (now (frame .entry)) (now (output .entry)) .octets) ⌝ }
+{
     let s = r.settings;
     let t = r.table;
-    let p = play(s, t, e, frame);
+    let p = played(r.trace, s, t, e, frame);
     let number = counted(r.number);
     let answer = p.answer;
     let table = p.table;
-    let out = r.out;
     let mut next = r;
     next.table = table;
     next.number = number;
     next.at = behind(r.at, size, r.have);
-    if output.len() < out {
-        next.done = true;
-        return next;
-    }
-    let n = write_line(&mut output[out..], number, answer);
-    next.out = behind(out, n, output.len());
+    let at = write_line(&mut *output, r.out, number, answer);
     if r.trace {
         let scratch = p.scratch;
-        next.out = traced(output, next.out, answer, scratch, table);
+        next.out = traced(output, at, answer, scratch, table);
+        return next;
     }
+    next.out = at;
     next
 }
 
 // The body of a record whose head is at the front of s.
-fn body(s: &[u8]) -> &[u8] {
+fn body(s: &[u8]) -> &[u8]
+    ensures { λ b. ⌜ now b ≡ bodyOf (now (s .entry)) ⌝ }
+{
     let size = record_length(s);
     if size <= s.len() {
         &s[5..size]
@@ -192,7 +232,9 @@ fn body(s: &[u8]) -> &[u8] {
 }
 
 // One record, or more input.
-pub fn turn(input: &mut [u8], output: &mut [u8], r: Run) -> Run {
+pub fn turn(input: &mut [u8], output: &mut [u8], r: Run) -> Run
+    ensures { λ q. ⌜ TurnOf (now (input .entry)) (now (output .entry)) r (now (input .exit)) (now (output .exit)) q ⌝ }
+{
     let at = r.at;
     let have = r.have;
     if have < at {
@@ -214,7 +256,9 @@ pub fn turn(input: &mut [u8], output: &mut [u8], r: Run) -> Run {
 }
 
 // The same, and the lines are written out where little room is left.
-pub fn round(input: &mut [u8], output: &mut [u8], r: Run) -> Run {
+pub fn round(input: &mut [u8], output: &mut [u8], r: Run) -> Run
+    ensures { λ q. ⌜ Rounded (now (input .entry)) (now (output .entry)) r (now (input .exit)) (now (output .exit)) q ⌝ }
+{
     let next = turn(input, output, r);
     if output.len() < 8192 {
         return flush(output, next);

@@ -5,60 +5,48 @@ use crate::trace::write_place;
 use peer::record::Record;
 use peer::turn::Told;
 use table::rules::answer::Answer;
-ghost use Prim.Native.Nat.{_≤_};
-
-// Where the next line goes once n octets were written at `out`, in a buffer of `len`.
-pub(crate) fn behind(out: usize, n: usize, len: usize) -> usize
-    ensures { λ r. ⌜ (out ≤ len → r ≤ len) ⌝ }
-{
-    if len < out {
-        return len;
-    }
-    if len - out < n { len } else { out + n }
-}
+ghost use mathlib.Core.Path.{_≡_};
+ghost use Rattle.bench.specs.Output.{upTo, putAll};
+ghost use Rattle.bench.specs.Trace.{octetsLines, currentLines, placeLines, tableLines, traceLines};
 
 // The octets that an event wrote.
-fn trace_octets(output: &mut [u8], out: usize, written: u16, scratch: [u8; 256]) -> usize {
+fn trace_octets(output: &mut [u8], out: usize, written: u16, scratch: [u8; 256]) -> usize
+    ensures { λ r. ⌜ upTo (now (output .exit)) r ≡ putAll (octetsLines written scratch) (upTo (now (output .entry)) out) ⌝ }
+{
     let n = written as usize;
     if n == 0 {
-        return out;
-    }
-    if output.len() < out {
         return out;
     }
     if 256 < n {
         return out;
     }
-    let k = write_octets(&mut output[out..], &scratch[..n]);
-    behind(out, k, output.len())
+    write_octets(output, out, &scratch[..n])
 }
 
 // The current AP of a reassociation's indication.
-fn trace_current(output: &mut [u8], out: usize, answer: Answer) -> usize {
+fn trace_current(output: &mut [u8], out: usize, answer: Answer) -> usize
+    ensures { λ r. ⌜ upTo (now (output .exit)) r ≡ putAll (currentLines answer) (upTo (now (output .entry)) out) ⌝ }
+{
     if answer.notice != Told::REASSOCIATION_INDICATION {
         return out;
     }
-    if output.len() < out {
-        return out;
-    }
-    let k = write_current(&mut output[out..], answer.current);
-    behind(out, k, output.len())
+    write_current(output, out, answer.current)
 }
 
 // A place that is not free.
-fn trace_place(output: &mut [u8], out: usize, place: u8, p: Record) -> usize {
+fn trace_place(output: &mut [u8], out: usize, place: u8, p: Record) -> usize
+    ensures { λ r. ⌜ upTo (now (output .exit)) r ≡ putAll (placeLines place p) (upTo (now (output .entry)) out) ⌝ }
+{
     if p.is_free() {
         return out;
     }
-    if output.len() < out {
-        return out;
-    }
-    let k = write_place(&mut output[out..], place, p);
-    behind(out, k, output.len())
+    write_place(output, out, place, p)
 }
 
 // Every place, in rising order.
-fn trace_table(output: &mut [u8], out: usize, t: [Record; 32]) -> usize {
+fn trace_table(output: &mut [u8], out: usize, t: [Record; 32]) -> usize
+    ensures { λ r. ⌜ upTo (now (output .exit)) r ≡ putAll (tableLines 0 t) (upTo (now (output .entry)) out) ⌝ }
+{
     let mut at = out;
     let mut i = 0;
     while i < 32 {
@@ -76,7 +64,9 @@ pub(crate) fn traced(
     answer: Answer,
     scratch: [u8; 256],
     t: [Record; 32],
-) -> usize {
+) -> usize
+    ensures { λ r. ⌜ upTo (now (output .exit)) r ≡ putAll (traceLines answer scratch t) (upTo (now (output .entry)) out) ⌝ }
+{
     let at = trace_octets(&mut *output, out, answer.written, scratch);
     let next = trace_current(&mut *output, at, answer);
     trace_table(output, next, t)

@@ -2,10 +2,21 @@
 ghost use mathlib.Core.Path.{_≡_};
 ghost use mathlib.Core.List.{[], _∷_};
 ghost use Prim.Native.Nat.{_+_, _*_, _≤_, _<_};
+ghost use lib.Dec.{leb};
 ghost use lib.ListN.{length};
 ghost use Rattle.octets.specs.Stored.{Stored};
 ghost use Rattle.octets.specs.Field.{octets};
 ghost use Rattle.bench.specs.Text.{tens, fieldOf, letterOf, glyphOf, hexOctet, hexOf};
+
+// Whether `room` octets fit behind the first `at` of `len`.
+pub(crate) fn has_room(len: usize, at: usize, room: usize) -> bool
+    ensures { λ r. ⌜ r ≡ leb (at + room) len ⌝ }
+{
+    if len < at {
+        return false;
+    }
+    room <= len - at
+}
 
 pub(crate) fn put_octet(out: &mut [u8], at: usize, v: u8)
     requires { ⌜ at + 1 ≤ length (now out) ⌝ }

@@ -1,4 +1,5 @@
 // What the trace shows behind an event's line: the octets written, the current AP, and every place that is not free.
+use crate::text::has_room;
 use crate::text::put_field;
 use crate::text::put_hex;
 use crate::text::put_hex_address;
@@ -11,57 +12,57 @@ ghost use mathlib.Core.Path.{_≡_};
 ghost use Prim.Native.Nat.{_+_, _*_, _≤_};
 ghost use lib.ListN.{length};
 ghost use Rattle.octets.specs.Stored.{Stored};
-ghost use Rattle.bench.specs.Trace.{octetsLine, octetsLength, octetsIn, currentLine, currentLength, currentIn, nameOf, timesOf, placeLength, placeIn};
+ghost use Rattle.bench.specs.Output.{short, upTo, putOf};
+ghost use Rattle.bench.specs.Trace.{octetsLine, octetsPut, currentLine, nameOf, timesOf, placeLine};
 
-fn put_octets(out: &mut [u8], octets: &[u8]) -> usize
-    requires { ⌜ 2 * length (now octets) + 64 ≤ length (now out) ⌝ }
-    ensures { λ r. ⌜ (r ≡ length (octetsLine (now (octets .entry)))) × (Stored (now (out .entry)) 0 (octetsLine (now (octets .entry))) (now (out .exit))) ⌝ }
+fn put_octets(out: &mut [u8], at: usize, octets: &[u8]) -> usize
+    requires { ⌜ at + (2 * length (now octets) + 64) ≤ length (now out) ⌝ }
+    ensures { λ r. ⌜ (r ≡ at + length (octetsLine (now (octets .entry)))) × (Stored (now (out .entry)) at (octetsLine (now (octets .entry))) (now (out .exit))) ⌝ }
 {
-    let p1 = put_word(out, 0, b"  octets ");
+    let p1 = put_word(out, at, b"  octets ");
     let p2 = put_hex(out, p1, octets);
     put_octet(out, p2, b'\n');
     p2 + 1
 }
 
-// Writes the line of the octets written at the front of the buffer and gives its length; where there is little room, nothing and 0.
-pub fn write_octets(out: &mut [u8], octets: &[u8]) -> usize
-    ensures { λ r. ⌜ (r ≡ octetsLength (now (octets .entry)) (length (now (out .entry)))) × (now (out .exit) ≡ octetsIn (now (octets .entry)) (now (out .entry))) ⌝ }
+// Writes the line of the octets written behind the first `at` octets of the buffer and gives where it ends; where there is little room,
+// nothing and `at`.
+pub(crate) fn write_octets(out: &mut [u8], at: usize, octets: &[u8]) -> usize
+    requires { ⌜ length (now octets) ≤ 256 ⌝ }
+    ensures { λ r. ⌜ upTo (now (out .exit)) r ≡ putOf (octetsPut (now (octets .entry))) (upTo (now (out .entry)) at) ⌝ }
 {
-    if 4096 < octets.len() {
-        return 0;
+    if has_room(out.len(), at, 2 * octets.len() + 64) {} else {
+        return at;
     }
-    if out.len() < 2 * octets.len() + 64 {
-        return 0;
-    }
-    put_octets(out, octets)
+    put_octets(out, at, octets)
 }
 
-fn put_current(out: &mut [u8], a: u64) -> usize
-    requires { ⌜ 64 ≤ length (now out) ⌝ }
-    ensures { λ r. ⌜ (r ≡ length (currentLine a)) × (Stored (now (out .entry)) 0 (currentLine a) (now (out .exit))) ⌝ }
+fn put_current(out: &mut [u8], at: usize, a: u64) -> usize
+    requires { ⌜ at + 64 ≤ length (now out) ⌝ }
+    ensures { λ r. ⌜ (r ≡ at + length (currentLine a)) × (Stored (now (out .entry)) at (currentLine a) (now (out .exit))) ⌝ }
 {
-    let p1 = put_word(out, 0, b"  current ");
+    let p1 = put_word(out, at, b"  current ");
     let p2 = put_hex_address(out, p1, a);
     put_octet(out, p2, b'\n');
     p2 + 1
 }
 
 // The same of the line of the current AP.
-pub fn write_current(out: &mut [u8], a: u64) -> usize
-    ensures { λ r. ⌜ (r ≡ currentLength a (length (now (out .entry)))) × (now (out .exit) ≡ currentIn a (now (out .entry))) ⌝ }
+pub fn write_current(out: &mut [u8], at: usize, a: u64) -> usize
+    ensures { λ r. ⌜ upTo (now (out .exit)) r ≡ putOf (short (currentLine a)) (upTo (now (out .entry)) at) ⌝ }
 {
-    if out.len() < 64 {
-        return 0;
+    if has_room(out.len(), at, 64) {} else {
+        return at;
     }
-    put_current(out, a)
+    put_current(out, at, a)
 }
 
 // The place and the address.
-fn put_name(out: &mut [u8], place: u8, p: Record) -> usize
-    requires { ⌜ 64 ≤ length (now out) ⌝ }
-    ensures { λ r. ⌜ (r ≡ length (nameOf place p)) × (Stored (now (out .entry)) 0 (nameOf place p) (now (out .exit))) ⌝ }
+fn put_name(out: &mut [u8], at: usize, place: u8, p: Record) -> usize
+    requires { ⌜ at + 64 ≤ length (now out) ⌝ }
+    ensures { λ r. ⌜ (r ≡ at + length (nameOf place p)) × (Stored (now (out .entry)) at (nameOf place p) (now (out .exit))) ⌝ }
 {
-    let p1 = put_word(out, 0, b"  place ");
+    let p1 = put_word(out, at, b"  place ");
     let p2 = put_field(out, p1, place as u64, 2);
     let p3 = put_hex_address(out, p2, p.address);
     put_octet(out, p3, b' ');
@@ -83,12 +84,12 @@ fn put_times(out: &mut [u8], at: usize, p: Record) -> usize
 }
 
 // The same of the line of a place.
-pub fn write_place(out: &mut [u8], place: u8, p: Record) -> usize
-    ensures { λ r. ⌜ (r ≡ placeLength place p (length (now (out .entry)))) × (now (out .exit) ≡ placeIn place p (now (out .entry))) ⌝ }
+pub fn write_place(out: &mut [u8], at: usize, place: u8, p: Record) -> usize
+    ensures { λ r. ⌜ upTo (now (out .exit)) r ≡ putOf (short (placeLine place p)) (upTo (now (out .entry)) at) ⌝ }
 {
-    if out.len() < 64 {
-        return 0;
+    if has_room(out.len(), at, 64) {} else {
+        return at;
     }
-    let at = put_name(out, place, p);
-    put_times(out, at, p)
+    let next = put_name(out, at, place, p);
+    put_times(out, next, p)
 }

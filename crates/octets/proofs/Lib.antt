@@ -1,6 +1,8 @@
 pub mod Branch
 pub mod Table
+pub mod Numbers
 pub mod Le
+pub mod Below
 pub mod Walk
 pub mod Stores
 pub mod Lengths

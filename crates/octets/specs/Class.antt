@@ -31,7 +31,14 @@ dataClass s = pick (eqb s 13) 0 3
 abbrev pub classNumber : ℕ → ℕ → ℕ
 classNumber t s = pick (eqb t 0) (management s) (pick (eqb t 1) (control s) (pick (eqb t 2) (dataClass s) 0))
 
--- The number of each class, as the class that a number names.
+-- The number of each class: 1, 2, 3, and 0 for none.
+abbrev pub numberOf : FrameClass → ℕ
+numberOf None = 0
+numberOf One = 1
+numberOf Two = 2
+numberOf Three = 3
+
+-- The class that a number names: the way back (`Numbers.antt`).
 abbrev pub named : ℕ → FrameClass
 named zero = None
 named (suc zero) = One

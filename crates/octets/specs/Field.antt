@@ -1,8 +1,15 @@
 -- 01, A received frame: multi-octet fixed fields are little-endian. The number that octets give, and the octets of a number.
 -- Assumes nothing.
 use Prim.Native.Nat.{ℕ, zero, suc, _+_, _*_, _/_, _%_}
+use mathlib.Core.Bool.{Bool, true, _&&_}
 use mathlib.Core.List.{List, [], _∷_}
+use lib.Dec.{ltb}
 use lib.ListN.{take, drop}
+
+-- Whether each number of a list is an octet: what a frame is made of.
+abbrev pub allOctets : List ℕ → Bool
+allOctets [] = true
+allOctets (x ∷ xs) = ltb x 256 && allOctets xs
 
 -- The number that octets give, the lowest first.
 abbrev pub le : List ℕ → ℕ

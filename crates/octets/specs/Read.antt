@@ -1,15 +1,23 @@
 -- A frame's fields, read back from its octets: what the round trip is about.
 -- Assumes nothing.
 use Prim.Native.Nat.{ℕ, _/_, _%_, _<_, _^_}
+use mathlib.Core.Path.{_≡_}
 use mathlib.Core.List.{List}
+use lib.Dec.{eqb}
+use lib.ListN.{length}
+use Rattle.octets.specs.Pick.{pick}
 use Rattle.octets.specs.Field.{field}
+use Rattle.octets.specs.Heard.{heardOf}
+use Rattle.octets.specs.Shape.{shapeOf, leastOf}
+use Rattle.octets.specs.declared.shape.Shape.the-variants.{Full}
 use Rattle.octets.specs.declared.frame.Frame.{Frame}
 use Rattle.octets.specs.declared.frame.Body.{Body}
 use Rattle.octets.specs.declared.frame.Body.the-variants.{Authentication, AssociationRequest, ReassociationRequest, Response, Reason}
 use Rattle.octets.specs.declared.heard.Kind.the-variants.{Association, Reassociation}
 use Rattle.octets.specs.declared.heard.Heard.{Heard}
 use Rattle.octets.specs.declared.heard.Heard.the-variants as heard
-use Rattle.octets.specs.declared.element.Comeback.the-variants.{Absent}
+use Rattle.octets.specs.declared.element.Comeback.{Comeback}
+use Rattle.octets.specs.declared.element.Comeback.the-variants.{Given, Absent}
 
 -- A body of the given one's kind, read from octet 24 on.
 abbrev pub bodyLike : Body → List ℕ → Body
@@ -44,12 +52,52 @@ pub record FrameFits (f : Frame) : Type 0 where
   pub address3 : f .address3 < 2 ^ 48
   pub body : BodyFits (f .body)
 
--- Which bodies go with which subtype, and what is heard of each.
-pub data Says : ℕ → Body → Heard → Type 0 where
-  authentication : {a t s : ℕ} → Says 11 (Authentication a t s) (heard.Authentication a t s)
-  association-request : {c : ℕ} → Says 0 (AssociationRequest c) (heard.Request Association 0)
-  reassociation-request : {c a : ℕ} → Says 2 (ReassociationRequest c a) (heard.Request Reassociation a)
-  association-response : {c s a : ℕ} → Says 1 (Response c s a) (heard.Response Association s a Absent)
-  reassociation-response : {c s a : ℕ} → Says 3 (Response c s a) (heard.Response Reassociation s a Absent)
-  deauthentication : {r : ℕ} → Says 12 (Reason r) (heard.Deauthentication r)
-  disassociation : {r : ℕ} → Says 10 (Reason r) (heard.Disassociation r)
+-- The same of what is heard.
+abbrev pub ComebackFits : Comeback → Type 0
+ComebackFits (Given tu) = tu < 2 ^ 32
+ComebackFits Absent = Unit
+
+abbrev pub HeardFits : Heard → Type 0
+HeardFits heard.Other = Unit
+HeardFits (heard.Authentication a t s) = (a < 2 ^ 16) × (t < 2 ^ 16) × (s < 2 ^ 16)
+HeardFits (heard.Deauthentication r) = r < 2 ^ 16
+HeardFits (heard.Disassociation r) = r < 2 ^ 16
+HeardFits (heard.Request k a) = a < 2 ^ 48
+HeardFits (heard.Response k s a c) = (s < 2 ^ 16) × (a < 2 ^ 14) × ComebackFits c
+
+-- Which bodies go with which subtype, and what is heard of each. The capability is c, where a body has one.
+pub data Says (c : ℕ) : ℕ → Body → Heard → Type 0 where
+  authentication : {a t s : ℕ} → Says c 11 (Authentication a t s) (heard.Authentication a t s)
+  association-request : Says c 0 (AssociationRequest c) (heard.Request Association 0)
+  reassociation-request : {a : ℕ} → Says c 2 (ReassociationRequest c a) (heard.Request Reassociation a)
+  association-response : {s a : ℕ} → Says c 1 (Response c s a) (heard.Response Association s a Absent)
+  reassociation-response : {s a : ℕ} → Says c 3 (Response c s a) (heard.Response Reassociation s a Absent)
+  deauthentication : {r : ℕ} → Says c 12 (Reason r) (heard.Deauthentication r)
+  disassociation : {r : ℕ} → Says c 10 (Reason r) (heard.Disassociation r)
+
+-- What nothing here hears of a body's fields, at their places.
+abbrev pub Unheard : Heard → ℕ → List ℕ → Type 0
+Unheard heard.Other c xs = Unit
+Unheard (heard.Authentication a t s) c xs = Unit
+Unheard (heard.Deauthentication r) c xs = Unit
+Unheard (heard.Disassociation r) c xs = Unit
+-- "capability, listen interval 10 (then current AP)"
+Unheard (heard.Request k a) c xs = (field 2 24 xs ≡ c) × (field 2 26 xs ≡ 10)
+-- "capability, status, AID with its two top bits set (for AID 0 all bits clear)"
+Unheard (heard.Response k s a b) c xs = (field 2 24 xs ≡ c) × (field 2 28 xs / 16384 ≡ pick (eqb a 0) 0 3)
+
+-- All that the octets of a frame say: "Frame Control, duration 0, Address 1, .. Address 2, .. Address 3, .. sequence control 0", and a body
+-- that is heard as w, with the capability c where it has one.
+pub record Reads (a₁ a₂ a₃ c : ℕ) (w : Heard) (xs : List ℕ) : Type 0 where
+  -- a whole frame of version 0 that has a class, and of its least length: "no elements"
+  pub whole : shapeOf xs ≡ Full
+  pub least : length xs ≡ leastOf (field 1 0 xs)
+  -- the second octet 00: neither To DS nor From DS
+  pub second : field 1 1 xs ≡ 0
+  pub duration : field 2 2 xs ≡ 0
+  pub address1 : field 6 4 xs ≡ a₁
+  pub address2 : field 6 10 xs ≡ a₂
+  pub address3 : field 6 16 xs ≡ a₃
+  pub sequence : field 2 22 xs ≡ 0
+  pub says : heardOf xs ≡ w
+  pub unheard : Unheard w c xs

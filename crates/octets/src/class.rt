@@ -2,7 +2,7 @@
 use crate::field::octet_at;
 ghost use mathlib.Core.Path.{_≡_};
 ghost use Prim.Native.Nat.{_/_, _%_, _<_};
-ghost use Rattle.octets.specs.Class.{classOf, classNumber, classless};
+ghost use Rattle.octets.specs.Class.{classOf, classNumber, classless, named};
 
 pub enum FrameClass {
     // No class: discarded.
@@ -15,78 +15,82 @@ pub enum FrameClass {
     Three,
 }
 
-// At 16 * type + subtype: 0 for none, else the class.
-const CLASSES: [u8; 64] = [
-    2,
-    2,
-    2,
-    2,
-    1,
-    1,
-    0,
-    0,
-    1,
-    1,
-    2,
-    1,
-    1,
-    3,
-    3,
-    0, // management
-    0,
-    0,
-    0,
-    0,
-    0,
-    0,
-    0,
-    0,
-    3,
-    3,
-    3,
-    1,
-    1,
-    1,
-    1,
-    1, // control
-    3,
-    3,
-    3,
-    3,
-    3,
-    3,
-    3,
-    3,
-    3,
-    3,
-    3,
-    3,
-    3,
-    0,
-    3,
-    3, // data
-    0,
-    0,
-    0,
-    0,
-    0,
-    0,
-    0,
-    0,
-    0,
-    0,
-    0,
-    0,
-    0,
-    0,
-    0,
-    0, // type 3
+// At 16 * type + subtype: the class of each frame, by the standard's names.
+const CLASSES: [FrameClass; 64] = [
+    // Type 0, management.
+    FrameClass::Two, // 0 association request
+    FrameClass::Two, // 1 association response
+    FrameClass::Two, // 2 reassociation request
+    FrameClass::Two, // 3 reassociation response
+    FrameClass::One, // 4 probe request
+    FrameClass::One, // 5 probe response
+    FrameClass::None, // 6 timing advertisement
+    FrameClass::None, // 7 reserved
+    FrameClass::One, // 8 beacon
+    FrameClass::One, // 9 ATIM
+    FrameClass::Two, // 10 disassociation
+    FrameClass::One, // 11 authentication
+    FrameClass::One, // 12 deauthentication
+    FrameClass::Three, // 13 action
+    FrameClass::Three, // 14 action, no acknowledgement
+    FrameClass::None, // 15 reserved
+    // Type 1, control.
+    FrameClass::None, // 0 reserved
+    FrameClass::None, // 1 reserved
+    FrameClass::None, // 2 trigger
+    FrameClass::None, // 3 TACK
+    FrameClass::None, // 4 beamforming report poll
+    FrameClass::None, // 5 NDP announcement
+    FrameClass::None, // 6 control frame extension
+    FrameClass::None, // 7 control wrapper
+    FrameClass::Three, // 8 block acknowledgement request
+    FrameClass::Three, // 9 block acknowledgement
+    FrameClass::Three, // 10 PS-Poll
+    FrameClass::One, // 11 RTS
+    FrameClass::One, // 12 CTS
+    FrameClass::One, // 13 ACK
+    FrameClass::One, // 14 CF-End
+    FrameClass::One, // 15 CF-End + CF-ACK
+    // Type 2, data.
+    FrameClass::Three, // 0 data
+    FrameClass::Three, // 1 data + CF-ACK
+    FrameClass::Three, // 2 data + CF-Poll
+    FrameClass::Three, // 3 data + CF-ACK + CF-Poll
+    FrameClass::Three, // 4 null
+    FrameClass::Three, // 5 CF-ACK
+    FrameClass::Three, // 6 CF-Poll
+    FrameClass::Three, // 7 CF-ACK + CF-Poll
+    FrameClass::Three, // 8 QoS data
+    FrameClass::Three, // 9 QoS data + CF-ACK
+    FrameClass::Three, // 10 QoS data + CF-Poll
+    FrameClass::Three, // 11 QoS data + CF-ACK + CF-Poll
+    FrameClass::Three, // 12 QoS null
+    FrameClass::None, // 13 reserved
+    FrameClass::Three, // 14 QoS CF-Poll
+    FrameClass::Three, // 15 QoS CF-ACK + CF-Poll
+    // Type 3, extension.
+    FrameClass::None, // 0 DMG beacon
+    FrameClass::None, // 1 S1G beacon
+    FrameClass::None, // 2 reserved
+    FrameClass::None, // 3 reserved
+    FrameClass::None, // 4 reserved
+    FrameClass::None, // 5 reserved
+    FrameClass::None, // 6 reserved
+    FrameClass::None, // 7 reserved
+    FrameClass::None, // 8 reserved
+    FrameClass::None, // 9 reserved
+    FrameClass::None, // 10 reserved
+    FrameClass::None, // 11 reserved
+    FrameClass::None, // 12 reserved
+    FrameClass::None, // 13 reserved
+    FrameClass::None, // 14 reserved
+    FrameClass::None, // 15 reserved
 ];
 
-// The number at a place of the table.
-fn entry(i: usize) -> u8
+// The class at a place of the table.
+fn entry(i: usize) -> FrameClass
     requires { ⌜ i < 64 ⌝ }
-    ensures { λ r. ⌜ r ≡ classNumber (i / 16) (i % 16) ⌝ }
+    ensures { λ r. ⌜ r ≡ named (classNumber (i / 16) (i % 16)) ⌝ }
 {
     CLASSES[i]
 }
@@ -99,13 +103,7 @@ pub fn class(frame: &[u8]) -> FrameClass
     if first % 4 != 0 {
         return FrameClass::None;
     }
-    let k = entry((first / 4 % 4 * 16 + first / 16) as usize);
-    match k {
-        0 => FrameClass::None,
-        1 => FrameClass::One,
-        2 => FrameClass::Two,
-        _ => FrameClass::Three,
-    }
+    entry((first / 4 % 4 * 16 + first / 16) as usize)
 }
 
 // Whether a frame has no class.

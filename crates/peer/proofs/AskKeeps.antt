@@ -15,7 +15,7 @@ use Rattle.peer.specs.Fit.{askedFits, awaitingFits, sentFits, stands}
 use Rattle.peer.specs.Moves.{movedOf}
 use Rattle.peer.specs.Record.{askedOf, isAssociating, kindOf, underWay}
 use Rattle.peer.specs.Refuse.{codeAllowed, conflictOf, joinConflict, mismatchOf, roleAllowed}
-use Rattle.peer.specs.Settings.{ap, settingsFit, station}
+use Rattle.peer.specs.Settings.{ap, settingsFit, station, timeFits}
 use Rattle.peer.specs.Turn.{turnOf}
 use Rattle.peer.specs.declared.moves.Move.the-variants as move
 use Rattle.peer.specs.declared.record.Exchange.the-variants.{Awaiting, Sent}
@@ -35,17 +35,17 @@ PrimitiveKeeps =
 above-one : (state : ℕ) → 1 ≤ state → eqb state 1 ≡ false → leb 2 state ≡ true
 above-one state low e = le-leb 2 state (let ne : state ≡ 1 → ⊥ = eqb-false state 1 e in omega arith)
 
-timeouts : (s : Settings) → settingsFit s ≡ true → (k : Kind) → not (eqb (timeoutOf s k) 0) ≡ true
+timeouts : (s : Settings) → settingsFit s ≡ true → (k : Kind) → timeFits (timeoutOf s k) ≡ true
 unfolding settingsFit
 timeouts s h k =
     let a = both (not (eqb (s .role) 0)) _ h in
     let b = both (leb (s .role) 2) _ (a .1) in
     let c = both (leb (s .rsna) 1) _ (b .1) in
-    let d = both (not (eqb (s .authentication) 0)) _ (c .1) in
-    let e = both (not (eqb (s .association) 0)) _ (d .1) in
+    let d = both (timeFits (s .authentication)) _ (c .1) in
+    let e = both (timeFits (s .association)) _ (d .1) in
     go k (d .0) (e .0)
   where
-    go : (k : Kind) → not (eqb (s .authentication) 0) ≡ true → not (eqb (s .association) 0) ≡ true → not (eqb (timeoutOf s k) 0) ≡ true
+    go : (k : Kind) → timeFits (s .authentication) ≡ true → timeFits (s .association) ≡ true → timeFits (timeoutOf s k) ≡ true
     go Authentication x y = x
     go Association x y = y
     go Reassociation x y = y
@@ -116,7 +116,7 @@ module _ (s : Settings) (p : Record) (f : Fits s p) (o : Others) (fit : settings
       let here : 3 ≤ p .state = leb-true 3 (p .state) three in
       keeps-changed s (o .busy) p f (movedOf (s .rsna) (p .state) move.Secure) (p .exchange) (p .left) (p .hold) false
       (moved-low (s .rsna) (p .state) move.Secure (f .low)) (moved-high (s .rsna) (p .state) move.Secure (f .high)) (f .held)
-      (suits-still (p .exchange) (s .role) (p .state) (p .left) (movedOf (s .rsna) (p .state) move.Secure) (p .left) (f .suits) refl
+      (suits-still (p .exchange) (s .role) (p .state) (p .left) (movedOf (s .rsna) (p .state) move.Secure) (p .left) (f .suits) refl (omega arith)
       (le-leb 2 (p .state) (omega arith) ∙ sym (le-leb 2 (movedOf (s .rsna) (p .state) move.Secure) (omega arith))))
       (λ a b j. three) (λ a b j. j)
 

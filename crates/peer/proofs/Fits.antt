@@ -12,8 +12,8 @@ use Rattle.octets.specs.declared.heard.Kind.the-variants.{Association, Authenti
 use Rattle.octets.specs.declared.heard.Kind.{Kind}
 use Rattle.peer.specs.Fit.{stands, askedFits, awaitingFits, sentFits, exchangeFits, holdFits, recordFits, placeFits}
 use Rattle.peer.specs.Moves.{movedOf}
-use Rattle.peer.specs.Record.{associates, changedOf, isFree, isJoined, underWay, sentOf, askedOf, kindOf}
-use Rattle.peer.specs.Settings.{ap, station}
+use Rattle.peer.specs.Record.{associates, changedOf, isAssociating, isFree, isJoined, isSent, underWay, askedOf}
+use Rattle.peer.specs.Settings.{ap, station, timeFits}
 use Rattle.peer.specs.declared.moves.Move.the-variants as move
 use Rattle.peer.specs.declared.moves.Move.{Move}
 use Rattle.peer.specs.declared.record.Exchange.the-variants.{Asked, Awaiting, None, Sent}
@@ -120,19 +120,44 @@ calm-moved rsna state move.Secure c h =
 
 -- ---- the exchanges
 
--- an exchange fits by whether its time is 0, and by whether the state is 2 or above
+-- a time that fits still does when it falls, but not to 0
+time-still : (left left′ : ℕ) → timeFits left ≡ true → eqb left 0 ≡ eqb left′ 0 → left′ ≤ left → timeFits left′ ≡ true
+unfolding timeFits
+time-still left left′ h z l =
+    let a = both (not (eqb left 0)) _ h in
+    let top : left ≤ 65535 = leb-true left 65535 (a .1) in
+    rw (← z, a .0, le-leb left′ 65535 (omega arith))
+
+-- an exchange fits by whether its time is 0, and if not, in range; and by whether the state is 2 or above
 pub suits-still :
-    (e : Exchange) (role state left state′ left′ : ℕ) → exchangeFits e role state left ≡ true → eqb left 0 ≡ eqb left′ 0
+    (e : Exchange) (role state left state′ left′ : ℕ) → exchangeFits e role state left ≡ true → eqb left 0 ≡ eqb left′ 0 → left′ ≤ left
     → leb 2 state ≡ leb 2 state′ → exchangeFits e role state′ left′ ≡ true
 unfolding askedFits awaitingFits sentFits stands
-suits-still None role state left state′ left′ h l k = rw (← l) h
-suits-still (Asked a) role state left state′ left′ h l k = rw (← l, ← k) h
-suits-still (Awaiting a) role state left state′ left′ h l k = rw (← l, ← k) h
-suits-still (Sent a) role state left state′ left′ h l k = rw (← l, ← k) h
+suits-still None role state left state′ left′ h z l k = rw (← z) h
+suits-still (Asked a) role state left state′ left′ h z l k = rw (← z, ← k) h
+suits-still (Awaiting a) role state left state′ left′ h z l k = rw (← z, ← k) h
+suits-still (Sent a) role state left state′ left′ h z l k =
+    let r = both (eqb role station) _ h in
+    let t = both (timeFits left) _ (r .1) in
+    rw (r .0, time-still left left′ (t .0) z l, ← k) (t .1)
+
+asked-short : (k : Kind) (role state left : ℕ) → askedFits k role state left ≡ true → left ≤ 65535
+unfolding askedFits
+asked-short k role state left h =
+    let z : left ≡ 0 = eqb-true left 0 (both (eqb left 0) _ (both (eqb role ap) _ h .1) .0) in omega arith
+
+-- whatever the exchange, its time left is in range
+pub suits-short : (e : Exchange) (role state left : ℕ) → exchangeFits e role state left ≡ true → left ≤ 65535
+unfolding awaitingFits sentFits timeFits
+suits-short None role state left h = let z : left ≡ 0 = eqb-true left 0 h in omega arith
+suits-short (Asked k) role state left h = asked-short k role state left h
+suits-short (Awaiting k) role state left h = asked-short k role state left (both (isAssociating k) _ h .1)
+suits-short (Sent k) role state left h =
+    leb-true left 65535 (both (not (eqb left 0)) _ (both (timeFits left) _ (both (eqb role station) _ h .1) .0) .1)
 
 -- an exchange that was sent is a station's
 pub sent-station :
-    (e : Exchange) (k : Kind) (role state left : ℕ) → exchangeFits e role state left ≡ true → eqb (sentOf e) (kindOf k) ≡ true
+    (e : Exchange) (k : Kind) (role state left : ℕ) → exchangeFits e role state left ≡ true → isSent k e ≡ true
     → eqb role ap ≡ false
 unfolding sentFits
 sent-station None Authentication role state left h q = wrong q

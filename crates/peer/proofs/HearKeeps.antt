@@ -1,17 +1,20 @@
 -- 01, Settings, table, clock, of "Well formed": "Each step keeps this." A frame, at one peer.
 -- Assumes nothing.
-use Prim.Native.Nat.{ℕ}
+use Prim.Native.Nat.{ℕ, _≤_}
+use native.Mathlib.Omega.{arith}
 use mathlib.Core.Path.{_≡_, refl, sym}
 use mathlib.Core.Bool.{Bool, true, false, not, _&&_, _||_}
 use mathlib.Core.List.{List}
 use lib.Dec.{eqb, leb, ltb}
-use borrow.Author.Tests.{eqb-true, not-false}
+use borrow.Author.Tests.{eqb-true, le-leb, not-false}
 use Rattle.octets.proofs.Branch.{by-bool}
 use Rattle.octets.specs.Class.{classOf}
 use Rattle.octets.specs.Field.{field, subtypeOf, typeOf, versionOf}
 use Rattle.octets.specs.Heard.{authenticationOf, heardOf, responseOf}
+use Rattle.octets.specs.Read.{ComebackFits, HeardFits}
 use Rattle.octets.specs.declared.class.FrameClass.{FrameClass}
 use Rattle.octets.specs.declared.element.Comeback.{Comeback}
+use Rattle.octets.specs.declared.element.Comeback.the-variants.{Absent, Given}
 use Rattle.octets.specs.declared.heard.Heard.the-variants as heard
 use Rattle.octets.specs.declared.heard.Heard.{Heard}
 use Rattle.octets.specs.declared.heard.Kind.the-variants.{Authentication}
@@ -23,7 +26,7 @@ use Rattle.peer.specs.Filter.{passesOf}
 use Rattle.peer.specs.Fit.{askedFits, holdFits, stands}
 use Rattle.peer.specs.Hear.{actOf, groupHeard, hearOf, isExchange}
 use Rattle.peer.specs.Moves.{movedOf}
-use Rattle.peer.specs.Record.{defaultHold, kindOf, sentOf}
+use Rattle.peer.specs.Record.{defaultHold, isSent}
 use Rattle.peer.specs.Settings.{ap, station}
 use Rattle.peer.specs.Turn.{endedOf, soleOf, turnOf}
 use Rattle.peer.specs.declared.moves.Move.the-variants as move
@@ -44,16 +47,20 @@ Backed k (heard.Disassociation reason) = Unit
 Backed k (heard.Request kind current) = (state : ℕ) → passesOf k state ≡ true → leb 2 state ≡ true
 Backed k (heard.Response kind status aid comeback) = Unit
 
--- the statement
+-- the statement; a station sets a hold by what it hears, whose fields fit their octets; at an access point nothing is asked of what is heard
 abbrev pub FrameKeeps : Type 0
 FrameKeeps =
     (s : Settings) (busy : Bool) (p : Record) → Fits s p → (k : FrameClass) (group : Bool) (h : Heard) → Backed k h
-    → Turns s busy p (hearOf s p k group h)
+    → (eqb (s .role) ap ≡ false → HeardFits h) → Turns s busy p (hearOf s p k group h)
 
--- a station's hold is free
-station-hold : (role hold : ℕ) → eqb role ap ≡ false → holdFits role hold ≡ true
+-- a station's hold is any in range, and a comeback gives one
+station-hold : (role hold : ℕ) → eqb role ap ≡ false → hold ≤ 4294967295 → holdFits role hold ≡ true
 unfolding holdFits
-station-hold role hold e = rw e
+station-hold role hold e l = rw (le-leb hold 4294967295 l, e)
+
+comeback-hold : (c : Comeback) → ComebackFits c → comebackHold c ≤ 4294967295
+comeback-hold (Given tu) f = omega arith
+comeback-hold Absent f = omega arith
 
 module _ (s : Settings) (busy : Bool) (p : Record) (f : Fits s p) where
   requested : (k : Kind) (current : ℕ) → eqb (s .role) ap ≡ true → stands k (p .state) ≡ true → Turns s busy p (requestedOf s p k current)
@@ -68,7 +75,7 @@ module _ (s : Settings) (busy : Bool) (p : Record) (f : Fits s p) where
       (λ g. rw (a, t, g) (requested Authentication 0 a (stood-any (p .state))))
       (λ g. rw (a, t, g) (replied f _ _)))
       (λ t. rw (a, t) (still f _)))
-      (λ a. by-bool (eqb algorithm 0 && (eqb transaction 2 && eqb (sentOf (p .exchange)) 1))
+      (λ a. by-bool (eqb algorithm 0 && (eqb transaction 2 && isSent Authentication (p .exchange)))
       (λ t. rw (a, t) (ended f (answeredMove status) (p .hold) _ _ _ (f .held) (λ b. answered-calm status)))
       (λ t. rw (a, t) (still f _)))
 
@@ -81,7 +88,7 @@ module _ (s : Settings) (busy : Bool) (p : Record) (f : Fits s p) where
   dropped-fits : holdFits (s .role) (droppedHold (s .role) (p .hold)) ≡ true
   unfolding droppedHold
   dropped-fits = by-bool (eqb (s .role) station)
-      (λ e. rw e (station-hold (s .role) defaultHold (rw (eqb-true (s .role) station e))))
+      (λ e. rw e (station-hold (s .role) defaultHold (rw (eqb-true (s .role) station e)) (omega arith)))
       (λ e. rw e (f .held))
 
   disassociation : (reason : ℕ) → Turns s busy p (disassociationHeard s p reason)
@@ -104,30 +111,37 @@ module _ (s : Settings) (busy : Bool) (p : Record) (f : Fits s p) where
       (moved-low (s .rsna) (p .state) move.Join (f .low)) (moved-high (s .rsna) (p .state) move.Join (f .high)) (f .held) refl
       (λ a b j. wrong (sym b)) (λ a b j. wrong j)
 
-  response : (k : Kind) (status aid : ℕ) (c : Comeback) → Turns s busy p (responseHeard s p k status aid c)
+  response :
+      (k : Kind) (status aid : ℕ) (c : Comeback) → (eqb (s .role) ap ≡ false → ComebackFits c)
+      → Turns s busy p (responseHeard s p k status aid c)
   unfolding responseHeard acceptedOf rejectedOf
-  response k status aid c = by-bool (eqb (sentOf (p .exchange)) (kindOf k))
-      (λ e. by-bool (eqb status 0)
+  response k status aid c u = by-bool (isSent k (p .exchange))
+      (λ e.
+      let here = sent-station (p .exchange) k (s .role) (p .state) (p .left) (f .suits) e in
+      by-bool (eqb status 0)
       (λ z. by-bool (eqb aid 0 || ltb 2007 aid)
       (λ w. rw (e, z, w) (still f _))
       (λ w. rw (e, z, w) (joined _ _ _)))
-      (λ z. rw (e, z) (ended f move.Drop (comebackHold c) _ _ _
-      (station-hold (s .role) (comebackHold c) (sent-station (p .exchange) k (s .role) (p .state) (p .left) (f .suits) e)) (λ a. refl))))
+      (λ z. rw (e, z) (ended f move.Drop (comebackHold c) _ _ _ (station-hold (s .role) (comebackHold c) here (comeback-hold c (u here))) (λ a. refl))))
       (λ e. rw e (still f _))
 
-  act : (k : FrameClass) (h : Heard) → Backed k h → passesOf k (p .state) ≡ true → Turns s busy p (actOf s p h)
-  act k heard.Other b e = still f _
-  act k (heard.Authentication algorithm transaction status) b e = authentication algorithm transaction status
-  act k (heard.Deauthentication reason) b e = deauthentication reason
-  act k (heard.Disassociation reason) b e = disassociation reason
-  act k (heard.Request kind current) b e = request kind current (b (p .state) e)
-  act k (heard.Response kind status aid c) b e = response kind status aid c
+  act :
+      (k : FrameClass) (h : Heard) → Backed k h → (eqb (s .role) ap ≡ false → HeardFits h) → passesOf k (p .state) ≡ true
+      → Turns s busy p (actOf s p h)
+  act k heard.Other b u e = still f _
+  act k (heard.Authentication algorithm transaction status) b u e = authentication algorithm transaction status
+  act k (heard.Deauthentication reason) b u e = deauthentication reason
+  act k (heard.Disassociation reason) b u e = disassociation reason
+  act k (heard.Request kind current) b u e = request kind current (b (p .state) e)
+  act k (heard.Response kind status aid c) b u e = response kind status aid c (λ r. u r .2)
 
-  heard-keeps : (k : FrameClass) (group : Bool) (h : Heard) → Backed k h → Turns s busy p (hearOf s p k group h)
+  heard-keeps :
+      (k : FrameClass) (group : Bool) (h : Heard) → Backed k h → (eqb (s .role) ap ≡ false → HeardFits h)
+      → Turns s busy p (hearOf s p k group h)
   unfolding hearOf groupHeard
-  heard-keeps k group h b = by-bool (not (passesOf k (p .state)))
+  heard-keeps k group h b u = by-bool (not (passesOf k (p .state)))
       (λ e. rw e (replied f _ _))
-      (λ e. let acts : Turns s busy p (actOf s p h) = act k h b (not-false _ e) in
+      (λ e. let acts : Turns s busy p (actOf s p h) = act k h b u (not-false _ e) in
       by-bool group
       (λ g. by-bool (isExchange h) (λ x. rw (e, g, x) (still f _)) (λ x. rw (e, g, x) acts))
       (λ g. rw (e, g) acts))

@@ -119,7 +119,7 @@ parted-keeps s p h = by-bool (ltb (p .state) 3) (λ e. rw e h) high
         let three : 3 ≤ p .state = ltb-false (p .state) 3 e in
         rw e (or-right (isFree (changedOf p 2 (p .exchange) (p .left) (p .hold))) _ (of-fits s _
         (keeps-changed s true p f 2 (p .exchange) (p .left) (p .hold) false (omega arith) (omega arith) (f .held)
-        (suits-still (p .exchange) (s .role) (p .state) (p .left) 2 (p .left) (f .suits) refl (le-leb 2 (p .state) (omega arith)))
+        (suits-still (p .exchange) (s .role) (p .state) (p .left) 2 (p .left) (f .suits) refl (omega arith) (le-leb 2 (p .state) (omega arith)))
         (λ a b j. wrong j) (λ a b j. j) .fits))))
 
 -- .. and leaves State 3 or 4, with its exchange and its address

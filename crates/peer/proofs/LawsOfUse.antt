@@ -12,10 +12,12 @@ use Rattle.octets.proofs.Branch.{by-bool, pick-both, pick-by}
 use Rattle.octets.specs.declared.class.FrameClass.{FrameClass}
 use Rattle.octets.specs.declared.element.Comeback.the-variants.{Given}
 use Rattle.octets.specs.declared.heard.Kind.{Kind}
+use Rattle.octets.specs.declared.heard.Kind.the-variants as kind
 use Rattle.octets.specs.declared.heard.Heard.{Heard}
 use Rattle.octets.specs.declared.heard.Heard.the-variants as heard
 use Rattle.peer.specs.Codes.{lastAid}
-use Rattle.peer.specs.Record.{changedOf, sentOf, kindOf, underWay, freeOf}
+use Rattle.peer.specs.Settings.{ap}
+use Rattle.peer.specs.Record.{changedOf, freeOf, isSent, underWay}
 use Rattle.peer.specs.Moves.{movedOf}
 use Rattle.peer.specs.Turn.{admit, discard, confirmOf, toldOf, turnOf, soleOf, endedOf, begunOf, repliedOf, stillOf}
 use Rattle.peer.specs.Filter.{passesOf}
@@ -50,14 +52,14 @@ act-held : (s : Settings) (p : Record) (h : Heard) → setsHold h ≡ false → 
 unfolding Held stillOf repliedOf turnOf authenticationHeard authenticationAtAp authenticationAtStation requestedOf begunOf endedOf changedOf deauthenticationHeard requestHeard responseHeard acceptedOf soleOf
 act-held s p heard.Other e = refl
 act-held s p (heard.Authentication a t st) e =
-    pick-both (Held p) (eqb (s .role) 1)
+    pick-both (Held p) (eqb (s .role) ap)
     (pick-both (Held p) (eqb t 1) (pick-both (Held p) (eqb a 0) refl refl) refl)
-    (pick-both (Held p) (eqb a 0 && (eqb t 2 && eqb (sentOf (p .exchange)) 1)) refl refl)
+    (pick-both (Held p) (eqb a 0 && (eqb t 2 && isSent kind.Authentication (p .exchange))) refl refl)
 act-held s p (heard.Deauthentication r) e = pick-both (Held p) (ltb (p .state) 2) refl refl
 act-held s p (heard.Disassociation r) e = let z : _≡_ {A = Bool} true false = e in cc
-act-held s p (heard.Request k c) e = pick-both (Held p) (eqb (s .role) 1) refl refl
+act-held s p (heard.Request k c) e = pick-both (Held p) (eqb (s .role) ap) refl refl
 act-held s p (heard.Response k st aid c) e =
-    pick-both (Held p) (eqb (sentOf (p .exchange)) (kindOf k)) (accepted (eqb st 0) e) refl
+    pick-both (Held p) (isSent k (p .exchange)) (accepted (eqb st 0) e) refl
   where
     accepted : (b : Bool) → not b ≡ false → Held p (pick b (acceptedOf s p k aid) (rejectedOf s p k st c))
     accepted true e = pick-both (Held p) (eqb aid 0 || ltb lastAid aid) refl refl
@@ -116,14 +118,14 @@ hold-after-step s p d = freed-hold (timedOf s p d .peer) ∙ timed-hold s p d
 Low : Turn → Type 0
 Low t = t .peer .state < 3
 
--- Whether what is heard may raise a state to 3 or 4: a response with status 0 and a valid AID.
-abbrev pub joins : Heard → Bool
-joins heard.Other = false
-joins (heard.Authentication algorithm transaction status) = false
-joins (heard.Deauthentication reason) = false
-joins (heard.Disassociation reason) = false
-joins (heard.Request k current) = false
-joins (heard.Response k status aid c) = eqb status 0 && not (eqb aid 0 || ltb lastAid aid)
+-- Whether what is heard may raise a state to 3 or 4: a response with status 0 and a valid AID, where a request of its kind was sent to that peer.
+abbrev pub joins : Record → Heard → Bool
+joins p heard.Other = false
+joins p (heard.Authentication algorithm transaction status) = false
+joins p (heard.Deauthentication reason) = false
+joins p (heard.Disassociation reason) = false
+joins p (heard.Request k current) = false
+joins p (heard.Response k status aid c) = isSent k (p .exchange) && (eqb status 0 && not (eqb aid 0 || ltb lastAid aid))
 
 answered-low : (s : Settings) (p : Record) (status : ℕ) → p .state < 3 → movedOf (s .rsna) (p .state) (answeredMove status) < 3
 unfolding answeredMove
@@ -137,27 +139,27 @@ answered-low s p status l = authenticated (eqb status 0)
     authenticated true = two (eqb (p .state) 1)
     authenticated false = l
 
-act-low : (s : Settings) (p : Record) (h : Heard) → p .state < 3 → joins h ≡ false → Low (actOf s p h)
+act-low : (s : Settings) (p : Record) (h : Heard) → p .state < 3 → joins p h ≡ false → Low (actOf s p h)
 unfolding Low stillOf repliedOf turnOf authenticationHeard authenticationAtAp authenticationAtStation requestedOf begunOf endedOf changedOf deauthenticationHeard disassociationHeard requestHeard responseHeard acceptedOf rejectedOf soleOf
 act-low s p heard.Other l e = l
 act-low s p (heard.Authentication a t st) l e =
-    pick-both Low (eqb (s .role) 1)
+    pick-both Low (eqb (s .role) ap)
     (pick-both Low (eqb t 1) (pick-both Low (eqb a 0) l l) l)
-    (pick-both Low (eqb a 0 && (eqb t 2 && eqb (sentOf (p .exchange)) 1)) (answered-low s p st l) l)
+    (pick-both Low (eqb a 0 && (eqb t 2 && isSent kind.Authentication (p .exchange))) (answered-low s p st l) l)
 act-low s p (heard.Deauthentication r) l e = pick-both Low (ltb (p .state) 2) l (omega arith)
 act-low s p (heard.Disassociation r) l e = pick-both Low (ltb (p .state) 3) l (omega arith)
-act-low s p (heard.Request k c) l e = pick-both Low (eqb (s .role) 1) l l
+act-low s p (heard.Request k c) l e = pick-both Low (eqb (s .role) ap) l l
 act-low s p (heard.Response k st aid c) l e =
-    pick-both Low (eqb (sentOf (p .exchange)) (kindOf k)) (answered (eqb st 0) (eqb aid 0 || ltb lastAid aid) e) l
+    pick-by Low (isSent k (p .exchange)) (λ sent. answered (eqb st 0) (eqb aid 0 || ltb lastAid aid) (rw sent at e)) (λ sent. l)
   where
     answered : (b d : Bool) → (b && not d) ≡ false → Low (pick b (pick d (stillOf s p 1) (soleOf (turnOf s p (endedOf s p move.Join (p .hold)) 1 (toldOf (confirmOf k) 0) Silent))) (rejectedOf s p k st c))
     answered true true e = l
     answered true false e = let z : _≡_ {A = ℕ} 0 1 = cc in absurd (omega arith)
     answered false d e = omega arith
 
--- "Raising the AP's state at the response, before its acknowledgement" is an error: no frame raises a state to 3 or 4 but a response with
--- status 0 and a valid AID, to a station that asked.
-pub rises-heard : (s : Settings) (p : Record) (k : FrameClass) (g : Bool) (h : Heard) → p .state < 3 → joins h ≡ false → hearOf s p k g h .peer .state < 3
+-- No frame raises a state to 3 or 4 but a response with status 0 and a valid AID to the request that we sent to that peer, and that is still
+-- under way.
+pub rises-heard : (s : Settings) (p : Record) (k : FrameClass) (g : Bool) (h : Heard) → p .state < 3 → joins p h ≡ false → hearOf s p k g h .peer .state < 3
 unfolding Low hearOf groupHeard repliedOf stillOf turnOf
 rises-heard s p k g h l e =
     pick-both Low (not (passesOf k (p .state))) l
@@ -209,14 +211,14 @@ act-admitted : (s : Settings) (p : Record) (h : Heard) → Admitted (actOf s p h
 unfolding Admitted stillOf repliedOf turnOf authenticationHeard authenticationAtAp authenticationAtStation requestedOf deauthenticationHeard disassociationHeard requestHeard responseHeard acceptedOf rejectedOf soleOf
 act-admitted s p heard.Other = refl
 act-admitted s p (heard.Authentication a t st) =
-    pick-both Admitted (eqb (s .role) 1)
+    pick-both Admitted (eqb (s .role) ap)
     (pick-both Admitted (eqb t 1) (pick-both Admitted (eqb a 0) refl refl) refl)
-    (pick-both Admitted (eqb a 0 && (eqb t 2 && eqb (sentOf (p .exchange)) 1)) refl refl)
+    (pick-both Admitted (eqb a 0 && (eqb t 2 && isSent kind.Authentication (p .exchange))) refl refl)
 act-admitted s p (heard.Deauthentication r) = pick-both Admitted (ltb (p .state) 2) refl refl
 act-admitted s p (heard.Disassociation r) = pick-both Admitted (ltb (p .state) 3) refl refl
-act-admitted s p (heard.Request k c) = pick-both Admitted (eqb (s .role) 1) refl refl
+act-admitted s p (heard.Request k c) = pick-both Admitted (eqb (s .role) ap) refl refl
 act-admitted s p (heard.Response k st aid c) =
-    pick-both Admitted (eqb (sentOf (p .exchange)) (kindOf k))
+    pick-both Admitted (isSent k (p .exchange))
     (pick-both Admitted (eqb st 0) (pick-both Admitted (eqb aid 0 || ltb lastAid aid) refl refl) refl)
     refl
 

@@ -4,3 +4,7 @@ pub mod HearKeeps
 pub mod AskKeeps
 pub mod TickKeeps
 pub mod LawsOfUse
+pub mod ErrorsThatLookRight
+pub mod Sent
+pub mod AskSaid
+pub mod HearSaid

@@ -1,11 +1,11 @@
 -- 01, Settings, table, clock, of "Well formed": "Each step keeps this." A clock step, at one place.
 -- Assumes nothing.
-use Prim.Native.Nat.{ℕ, _<_, _-_}
+use Prim.Native.Nat.{ℕ, _<_, _≤_, _-_}
 use mathlib.Core.Path.{_≡_, refl, sym, _∙_}
 use mathlib.Core.Bool.{Bool, true, false, _&&_}
 use native.Mathlib.Omega.{arith}
-use lib.Dec.{eqb, ltb}
-use borrow.Author.Tests.{eq-eqb, ne-eqb, eqb-true, ltb-true}
+use lib.Dec.{eqb, leb, ltb}
+use borrow.Author.Tests.{eq-eqb, ne-eqb, eqb-true, le-leb, leb-true, ltb-true}
 use Rattle.octets.proofs.Branch.{by-bool}
 use Rattle.peer.specs.Fit.{holdFits, placeFits}
 use Rattle.peer.specs.Moves.{movedOf}
@@ -26,9 +26,12 @@ ClockKeeps = (s : Settings) (p : Record) (d : ℕ) → placeFits s p ≡ true �
 -- "an AP's holds are 0", and stay so
 hold-less : (role hold d : ℕ) → holdFits role hold ≡ true → holdFits role (hold - d) ≡ true
 unfolding holdFits
-hold-less role hold d h = by-bool (eqb role ap)
-    (λ a. rw (a, eq-eqb (hold - d) 0 (let z : hold ≡ 0 = eqb-true hold 0 (rw a at h) in omega arith)))
-    (λ a. rw a)
+hold-less role hold d h =
+    let t = both (leb hold 4294967295) _ h in
+    let top : hold ≤ 4294967295 = leb-true hold 4294967295 (t .0) in
+    rw (le-leb (hold - d) 4294967295 (omega arith)) (by-bool (eqb role ap)
+    (λ a. rw (a, eq-eqb (hold - d) 0 (let z : hold ≡ 0 = eqb-true hold 0 (rw a at (t .1)) in omega arith)))
+    (λ a. rw a))
 
 expired-calm : (kind : ℕ) → calm (expiredMove kind) ≡ true
 unfolding expiredMove
@@ -39,13 +42,13 @@ timed-keeps : (s : Settings) (p : Record) (d : ℕ) → Fits s p → Keeps s tru
 unfolding timedOf endedOf
 timed-keeps s p d f = by-bool (eqb (p .left) 0)
     (λ l. rw l (keeps-changed s true p f (p .state) (p .exchange) 0 (p .hold - d) false (f .low) (f .high) held
-    (suits-still (p .exchange) (s .role) (p .state) (p .left) (p .state) 0 (f .suits) l refl) (λ a b j. j) (λ a b j. j)))
+    (suits-still (p .exchange) (s .role) (p .state) (p .left) (p .state) 0 (f .suits) l (omega arith) refl) (λ a b j. j) (λ a b j. j)))
     (λ l. by-bool (ltb d (p .left))
     (λ r.
     let more : d < p .left = ltb-true d (p .left) r in
     let on : eqb (p .left - d) 0 ≡ false = ne-eqb (p .left - d) 0 (λ (z : p .left - d ≡ 0). omega arith) in
     rw (l, r) (keeps-changed s true p f (p .state) (p .exchange) (p .left - d) (p .hold - d) false (f .low) (f .high) held
-    (suits-still (p .exchange) (s .role) (p .state) (p .left) (p .state) (p .left - d) (f .suits) (l ∙ sym on) refl)
+    (suits-still (p .exchange) (s .role) (p .state) (p .left) (p .state) (p .left - d) (f .suits) (l ∙ sym on) (omega arith) refl)
     (λ a b j. j) (λ a b j. j)))
     (λ r. rw (l, r) (keeps-changed s true p f (movedOf (s .rsna) (p .state) m) None 0 (p .hold - d) false
     (moved-low (s .rsna) (p .state) m (f .low)) (moved-high (s .rsna) (p .state) m (f .high)) held refl

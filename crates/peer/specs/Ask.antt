@@ -6,12 +6,12 @@ use lib.Dec.{eqb, ltb}
 use Rattle.octets.specs.Pick.{pick}
 use Rattle.octets.specs.declared.heard.Kind.the-variants.{Association, Authentication, Reassociation}
 use Rattle.octets.specs.declared.heard.Kind.{Kind}
-use Rattle.peer.specs.Codes.{deauthenticationConfirm, disassociationConfirm, statusRefused}
+use Rattle.peer.specs.Codes.{statusRefused}
 use Rattle.peer.specs.Authentication.{answeredMove}
 use Rattle.peer.specs.Moves.{movedOf}
 use Rattle.peer.specs.Record.{changedOf}
 use Rattle.peer.specs.Reply.{authenticationTo, deauthenticationTo, disassociationTo, requestTo, responseTo}
-use Rattle.peer.specs.Turn.{begunOf, confirmOf, endedOf, none, nothingTold, toldOf, turnOf}
+use Rattle.peer.specs.Turn.{begunOf, confirmOf, deauthenticationConfirm, disassociationConfirm, endedOf, none, nothingTold, toldOf, turnOf}
 use Rattle.peer.specs.declared.moves.Move.the-variants as move
 use Rattle.peer.specs.declared.moves.Move.{Move}
 use Rattle.peer.specs.declared.record.Exchange.the-variants.{Awaiting, Sent}

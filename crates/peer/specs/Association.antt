@@ -10,7 +10,7 @@ use Rattle.octets.specs.declared.heard.Kind.{Kind}
 use Rattle.peer.specs.Codes.{lastAid}
 use Rattle.peer.specs.Authentication.{requestedOf}
 use Rattle.peer.specs.Moves.{movedOf}
-use Rattle.peer.specs.Record.{changedOf, defaultHold, kindOf, sentOf}
+use Rattle.peer.specs.Record.{changedOf, defaultHold, isSent}
 use Rattle.peer.specs.Settings.{ap}
 use Rattle.peer.specs.Turn.{admit, confirmOf, endedOf, soleOf, stillOf, toldOf, turnOf}
 use Rattle.peer.specs.declared.moves.Move.the-variants as move
@@ -44,7 +44,7 @@ rejectedOf s p k status c =
 -- "Response, station, matching exchange sent". (At an AP no exchange is sent.)
 unfoldable pub responseHeard : Settings → Record → Kind → ℕ → ℕ → Comeback → Turn
 responseHeard s p k status aid c =
-    pick (eqb (sentOf (p .exchange)) (kindOf k))
+    pick (isSent k (p .exchange))
     (pick (eqb status 0) (acceptedOf s p k aid) (rejectedOf s p k status c))
     (stillOf s p admit)
 

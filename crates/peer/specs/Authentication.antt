@@ -6,11 +6,11 @@ use lib.Dec.{eqb}
 use Rattle.octets.specs.Pick.{pick}
 use Rattle.octets.specs.declared.heard.Kind.the-variants as kind
 use Rattle.octets.specs.declared.heard.Kind.{Kind}
-use Rattle.peer.specs.Codes.{authenticationConfirm, statusAlgorithm, statusFull}
-use Rattle.peer.specs.Record.{sentOf}
+use Rattle.peer.specs.Codes.{statusAlgorithm, statusFull}
+use Rattle.peer.specs.Record.{isSent}
 use Rattle.peer.specs.Reply.{authenticationTo}
 use Rattle.peer.specs.Settings.{ap}
-use Rattle.peer.specs.Turn.{admit, begunOf, endedOf, indicationOf, repliedOf, stillOf, toldOf, turnOf}
+use Rattle.peer.specs.Turn.{admit, begunOf, confirmOf, endedOf, indicationOf, repliedOf, stillOf, toldOf, turnOf}
 use Rattle.peer.specs.declared.moves.Move.the-variants as move
 use Rattle.peer.specs.declared.moves.Move.{Move}
 use Rattle.peer.specs.declared.record.Exchange.the-variants.{Asked}
@@ -45,8 +45,8 @@ answeredMove status = pick (eqb status 0) move.Authenticate move.Keep
 -- "Authentication, station, algorithm 0, transaction 2, authentication sent to that peer: exchange ends; .. Confirm with the status."
 unfoldable pub authenticationAtStation : Settings → Record → ℕ → ℕ → ℕ → Turn
 authenticationAtStation s p algorithm transaction status =
-    pick (eqb algorithm 0 && (eqb transaction 2 && eqb (sentOf (p .exchange)) 1))
-    (turnOf s p (endedOf s p (answeredMove status) (p .hold)) admit (toldOf authenticationConfirm status) Silent)
+    pick (eqb algorithm 0 && (eqb transaction 2 && isSent kind.Authentication (p .exchange)))
+    (turnOf s p (endedOf s p (answeredMove status) (p .hold)) admit (toldOf (confirmOf kind.Authentication) status) Silent)
     (stillOf s p admit)
 
 unfoldable pub authenticationHeard : Settings → Record → ℕ → ℕ → ℕ → Turn

@@ -1,4 +1,4 @@
--- The standard's status and reason codes that are sent, its highest AID, and the notices.
+-- The standard's status and reason codes that are sent, and its highest AID.
 -- Assumes nothing.
 use Prim.Native.Nat.{ℕ}
 
@@ -22,19 +22,3 @@ reasonClass3 = 7
 -- "AID (low 14 bits) outside 1-2007"
 abbrev pub lastAid : ℕ
 lastAid = 2007
-
--- "Notices: .. authentication 1, 2; deauthentication 3, 4; .. disassociation 9, 10."
-abbrev pub authenticationConfirm : ℕ
-authenticationConfirm = 2
-
-abbrev pub deauthenticationIndication : ℕ
-deauthenticationIndication = 3
-
-abbrev pub deauthenticationConfirm : ℕ
-deauthenticationConfirm = 4
-
-abbrev pub disassociationIndication : ℕ
-disassociationIndication = 9
-
-abbrev pub disassociationConfirm : ℕ
-disassociationConfirm = 10

@@ -3,10 +3,9 @@
 use Prim.Native.Nat.{ℕ}
 use lib.Dec.{eqb, ltb}
 use Rattle.octets.specs.Pick.{pick}
-use Rattle.peer.specs.Codes.{deauthenticationIndication, disassociationIndication}
 use Rattle.peer.specs.Record.{defaultHold}
 use Rattle.peer.specs.Settings.{station}
-use Rattle.peer.specs.Turn.{admit, endedOf, stillOf, toldOf, turnOf}
+use Rattle.peer.specs.Turn.{admit, deauthenticationIndication, disassociationIndication, endedOf, stillOf, toldOf, turnOf}
 use Rattle.peer.specs.declared.moves.Move.the-variants as move
 use Rattle.peer.specs.declared.record.Record.{Record}
 use Rattle.peer.specs.declared.reply.Reply.the-variants.{Silent}

@@ -7,7 +7,7 @@ use Rattle.octets.specs.Address.{validOf}
 use Rattle.octets.specs.Pick.{pick}
 use Rattle.octets.specs.declared.heard.Kind.{Kind}
 use Rattle.peer.specs.Record.{isAssociating, isFree}
-use Rattle.peer.specs.Settings.{ap, station}
+use Rattle.peer.specs.Settings.{ap, station, timeFits}
 use Rattle.peer.specs.declared.record.Exchange.the-variants.{Asked, Awaiting, None, Sent}
 use Rattle.peer.specs.declared.record.Exchange.{Exchange}
 use Rattle.peer.specs.declared.record.Record.{Record}
@@ -17,7 +17,7 @@ use Rattle.peer.specs.declared.settings.Settings.{Settings}
 unfoldable pub stands : Kind → ℕ → Bool
 stands k state = pick (isAssociating k) (leb 2 state) true
 
--- "exchanges fit the role": asked, AP (any of the three); "a station's exchange has 1 to 65,535 TU left, every other time left is 0"
+-- "exchanges fit the role": asked, AP (any of the three); "every other time left is 0"
 unfoldable pub askedFits : Kind → ℕ → ℕ → ℕ → Bool
 askedFits k role state left = eqb role ap && (eqb left 0 && stands k state)
 
@@ -25,9 +25,9 @@ askedFits k role state left = eqb role ap && (eqb left 0 && stands k state)
 unfoldable pub awaitingFits : Kind → ℕ → ℕ → ℕ → Bool
 awaitingFits k role state left = isAssociating k && askedFits k role state left
 
--- "sent, station (any of the three)"
+-- "sent, station (any of the three)"; "a station's exchange has 1 to 65,535 TU left"
 unfoldable pub sentFits : Kind → ℕ → ℕ → ℕ → Bool
-sentFits k role state left = eqb role station && (not (eqb left 0) && stands k state)
+sentFits k role state left = eqb role station && (timeFits left && stands k state)
 
 abbrev pub exchangeFits : Exchange → ℕ → ℕ → ℕ → Bool
 exchangeFits None role state left = eqb left 0
@@ -35,9 +35,9 @@ exchangeFits (Asked k) role state left = askedFits k role state left
 exchangeFits (Awaiting k) role state left = awaitingFits k role state left
 exchangeFits (Sent k) role state left = sentFits k role state left
 
--- "an AP's holds are 0"
+-- "a hold time left (0 to 4,294,967,295 TU)"; "an AP's holds are 0"
 unfoldable pub holdFits : ℕ → ℕ → Bool
-holdFits role hold = not (eqb role ap) || eqb hold 0
+holdFits role hold = leb hold 4294967295 && (not (eqb role ap) || eqb hold 0)
 
 -- "each in State 1 to 4"; "outside free places no address is invalid, own"; the hold and the exchange as above
 unfoldable pub recordFits : Settings → Record → Bool

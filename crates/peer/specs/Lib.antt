@@ -13,3 +13,4 @@ pub mod Hear
 pub mod Refuse
 pub mod Ask
 pub mod Tick
+pub mod Said

@@ -21,9 +21,19 @@ movedOf rsna state Join = pick (eqb rsna 1) 3 4
 -- "State 3 to 4; State 4 kept"
 movedOf rsna state Secure = pick (eqb state 3) 4 state
 
--- "An AP also tells the distribution system "joined" when a state rises from 1-2 to 3-4, "left" when it falls back." 1 joined, 2 left.
+-- What the distribution system is told.
+abbrev pub dsNone : ℕ
+dsNone = 0
+
+abbrev pub dsJoined : ℕ
+dsJoined = 1
+
+abbrev pub dsLeft : ℕ
+dsLeft = 2
+
+-- "An AP also tells the distribution system "joined" when a state rises from 1-2 to 3-4, "left" when it falls back."
 unfoldable pub dsOf : ℕ → ℕ → ℕ → ℕ
 dsOf role before after =
     pick (eqb role ap)
-    (pick (ltb before 3) (pick (ltb after 3) 0 1) (pick (ltb after 3) 2 0))
-    0
+    (pick (ltb before 3) (pick (ltb after 3) dsNone dsJoined) (pick (ltb after 3) dsLeft dsNone))
+    dsNone

@@ -41,6 +41,13 @@ underWay (Asked k) = kindOf k
 underWay (Awaiting k) = kindOf k
 underWay (Sent k) = kindOf k
 
+-- Whether an exchange of a kind is asked; was sent.
+abbrev pub isAsked : Kind → Exchange → Bool
+isAsked k e = eqb (askedOf e) (kindOf k)
+
+abbrev pub isSent : Kind → Exchange → Bool
+isSent k e = eqb (sentOf e) (kindOf k)
+
 -- One number for an exchange, where a table is shown: 0 none, 1 to 3 asked, 4 to 6 awaiting acknowledgement, 7 to 9 sent.
 abbrev pub exchangeNumber : Exchange → ℕ
 exchangeNumber None = 0
@@ -72,7 +79,7 @@ isJoined p = leb 3 (p .state)
 
 -- a (re)association is under way
 unfoldable pub associates : Record → Bool
-associates p = leb 2 (underWay (p .exchange))
+associates p = leb (kindOf Association) (underWay (p .exchange))
 
 -- "a fresh record has one fixed form: State 1, no exchange, times zero"
 unfoldable pub freshOf : ℕ → Record

@@ -4,7 +4,8 @@ use Prim.Native.Nat.{ℕ}
 use mathlib.Core.Bool.{Bool, _&&_, _||_, false, not, true}
 use lib.Dec.{eqb, leb, ltb}
 use Rattle.octets.specs.Pick.{pick}
-use Rattle.peer.specs.Record.{askedOf, awaitingOf, underWay}
+use Rattle.octets.specs.declared.heard.Kind.the-variants.{Association, Authentication, Reassociation}
+use Rattle.peer.specs.Record.{awaitingOf, isAsked, underWay}
 use Rattle.peer.specs.Settings.{ap, station}
 use Rattle.peer.specs.declared.record.Record.{Record}
 use Rattle.peer.specs.declared.refuse.Others.{Others}
@@ -47,10 +48,10 @@ joinedElsewhere p o = not (eqb (o .associated) 0) && not (eqb (o .associated) (p
 -- 10 "unless awaited".
 unfoldable pub mismatchOf : Record → Others → ℕ → Bool
 mismatchOf p o q =
-    pick (eqb q 2) (not (eqb (askedOf (p .exchange)) 1))
+    pick (eqb q 2) (not (isAsked Authentication (p .exchange)))
     (pick (eqb q 4) (joinedElsewhere p o)
-    (pick (eqb q 7) (not (eqb (askedOf (p .exchange)) 2))
-    (pick (eqb q 8) (not (eqb (askedOf (p .exchange)) 3))
+    (pick (eqb q 7) (not (isAsked Association (p .exchange)))
+    (pick (eqb q 8) (not (isAsked Reassociation (p .exchange)))
     (pick (eqb q 9) (ltb (p .state) 3)
     (pick (eqb q 10) (eqb (awaitingOf (p .exchange)) 0)
     false)))))

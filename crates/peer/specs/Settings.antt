@@ -1,5 +1,5 @@
 -- 01, Settings, table, clock: "Settings: role (1 AP, 2 station), own address, whether RSNA is required (0 or 1), authentication and
--- association timeouts (1 to 65,535 TU)". The upper ends of the timeouts are those of their type.
+-- association timeouts (1 to 65,535 TU)".
 -- Assumes nothing.
 use Prim.Native.Nat.{ℕ}
 use mathlib.Core.Bool.{Bool, _&&_, not}
@@ -13,11 +13,15 @@ ap = 1
 abbrev pub station : ℕ
 station = 2
 
+-- "1 to 65,535 TU": a timeout, and what is left of one
+unfoldable pub timeFits : ℕ → Bool
+timeFits n = not (eqb n 0) && leb n 65535
+
 -- "settings in range and own address valid"
 unfoldable pub settingsFit : Settings → Bool
 settingsFit s =
     not (eqb (s .role) 0) && (leb (s .role) 2
     && (leb (s .rsna) 1
-    && (not (eqb (s .authentication) 0)
-    && (not (eqb (s .association) 0)
+    && (timeFits (s .authentication)
+    && (timeFits (s .association)
     && validOf (s .own)))))

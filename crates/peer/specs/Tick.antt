@@ -6,7 +6,8 @@ use Prim.Native.Nat.{_-_, ℕ}
 use mathlib.Core.Bool.{_&&_}
 use lib.Dec.{eqb, ltb}
 use Rattle.octets.specs.Pick.{pick}
-use Rattle.peer.specs.Record.{changedOf, freeOf, underWay}
+use Rattle.octets.specs.declared.heard.Kind.the-variants.{Authentication}
+use Rattle.peer.specs.Record.{changedOf, freeOf, kindOf, underWay}
 use Rattle.peer.specs.Turn.{endedOf}
 use Rattle.peer.specs.declared.moves.Move.the-variants as move
 use Rattle.peer.specs.declared.moves.Move.{Move}
@@ -16,7 +17,7 @@ use Rattle.peer.specs.declared.tick.Ticked.{Ticked}
 
 -- "authentication keeps the state, the others set State 2"
 unfoldable pub expiredMove : ℕ → Move
-expiredMove kind = pick (eqb kind 1) move.Keep move.Drop
+expiredMove kind = pick (eqb kind (kindOf Authentication)) move.Keep move.Drop
 
 -- The times fall, not below 0 (subtraction stops there), and an exchange may end; the number of its kind is reported, else 0.
 unfoldable pub timedOf : Settings → Record → ℕ → Ticked

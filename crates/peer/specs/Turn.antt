@@ -38,6 +38,18 @@ confirmOf Authentication = 2
 confirmOf Association = 6
 confirmOf Reassociation = 8
 
+abbrev pub deauthenticationIndication : ℕ
+deauthenticationIndication = 3
+
+abbrev pub deauthenticationConfirm : ℕ
+deauthenticationConfirm = 4
+
+abbrev pub disassociationIndication : ℕ
+disassociationIndication = 9
+
+abbrev pub disassociationConfirm : ℕ
+disassociationConfirm = 10
+
 abbrev pub nothingTold : Told
 nothingTold = record { notice = 0; code = 0; current = 0 }
 

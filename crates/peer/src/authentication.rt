@@ -2,6 +2,7 @@
 use crate::codes::STATUS_ALGORITHM;
 use crate::codes::STATUS_FULL;
 use crate::moves::Move;
+use crate::record::AUTHENTICATION;
 use crate::record::Exchange;
 use crate::record::Record;
 use crate::record::sent;
@@ -95,7 +96,7 @@ fn authentication_at_station(
         return still(s, p, Turn::ADMIT);
     }
     let e = p.exchange;
-    if sent(e) != 1 {
+    if sent(e) != AUTHENTICATION {
         return still(s, p, Turn::ADMIT);
     }
     let m = answered_move(status);

@@ -1,7 +1,6 @@
 // The moves of a state: one function owns them all. And what the distribution system is told of them.
 use crate::record::Record;
 use crate::settings::Settings;
-use crate::turn::Turn;
 ghost use mathlib.Core.Path.{_≡_};
 ghost use Rattle.peer.specs.Moves.{dsOf, movedOf};
 
@@ -52,24 +51,31 @@ pub fn moved(rsna: u8, state: u8, m: Move) -> u8
     }
 }
 
-// What the distribution system is told when a state goes from one to another.
+// What the distribution system is told.
+pub const DS_NONE: u8 = 0;
+
+pub const DS_JOINED: u8 = 1;
+
+pub const DS_LEFT: u8 = 2;
+
+// What it is told when a state goes from one to another.
 pub fn ds(role: u8, before: u8, after: u8) -> u8
     ensures { λ r. ⌜ r ≡ dsOf role before after ⌝ }
 {
     if role != Settings::AP {
-        return Turn::DS_NONE;
+        return DS_NONE;
     }
     if before < Record::STATE_3 {
         if after < Record::STATE_3 {
-            Turn::DS_NONE
+            DS_NONE
         } else {
-            Turn::DS_JOINED
+            DS_JOINED
         }
     } else {
         if after < Record::STATE_3 {
-            Turn::DS_LEFT
+            DS_LEFT
         } else {
-            Turn::DS_NONE
+            DS_NONE
         }
     }
 }

@@ -23,14 +23,21 @@ pub struct Record {
     pub hold: u32,
 }
 
-// The number of a kind: 1 authentication, 2 association, 3 reassociation.
+// The numbers of the kinds.
+pub const AUTHENTICATION: u8 = 1;
+
+pub const ASSOCIATION: u8 = 2;
+
+pub const REASSOCIATION: u8 = 3;
+
+// The number of a kind.
 pub fn kind_number(k: Kind) -> u8
     ensures { λ r. ⌜ r ≡ kindOf k ⌝ }
 {
     match k {
-        Kind::Authentication => 1,
-        Kind::Association => 2,
-        Kind::Reassociation => 3,
+        Kind::Authentication => AUTHENTICATION,
+        Kind::Association => ASSOCIATION,
+        Kind::Reassociation => REASSOCIATION,
     }
 }
 
@@ -214,6 +221,6 @@ impl Record {
         ensures { λ r. ⌜ r ≡ associates self ⌝ }
     {
         let e = self.exchange;
-        2 <= under_way(e)
+        ASSOCIATION <= under_way(e)
     }
 }

@@ -1,4 +1,7 @@
 // What refuses a primitive at one peer: codes, roles, exchanges and states, holds. The order of refusals is the table's.
+use crate::record::ASSOCIATION;
+use crate::record::AUTHENTICATION;
+use crate::record::REASSOCIATION;
 use crate::record::Record;
 use crate::record::asked;
 use crate::record::awaiting;
@@ -85,10 +88,10 @@ pub fn mismatch(p: Record, o: Others, primitive: u8) -> bool
 {
     let e = p.exchange;
     match primitive {
-        2 => asked(e) != 1,
+        2 => asked(e) != AUTHENTICATION,
         4 => joined_elsewhere(p, o),
-        7 => asked(e) != 2,
-        8 => asked(e) != 3,
+        7 => asked(e) != ASSOCIATION,
+        8 => asked(e) != REASSOCIATION,
         9 => p.state < Record::STATE_3,
         10 => awaiting(e) == 0,
         _ => false,

@@ -1,5 +1,6 @@
 // What a clock step does at one record: the times fall, an exchange may end, and the place may be free again.
 use crate::moves::Move;
+use crate::record::AUTHENTICATION;
 use crate::record::Record;
 use crate::record::under_way;
 use crate::settings::Settings;
@@ -25,7 +26,11 @@ fn lowered_hold(n: u32, d: u16) -> u32
 fn expired_move(kind: u8) -> Move
     ensures { λ r. ⌜ r ≡ expiredMove kind ⌝ }
 {
-    if kind == 1 { Move::Keep } else { Move::Drop }
+    if kind == AUTHENTICATION {
+        Move::Keep
+    } else {
+        Move::Drop
+    }
 }
 
 // The times fall, and an exchange whose time falls to 0 from above ends.

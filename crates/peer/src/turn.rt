@@ -100,13 +100,6 @@ impl Turn {
 
     pub const DISCARD: u8 = 2;
 
-    // What the distribution system is told.
-    pub const DS_NONE: u8 = 0;
-
-    pub const DS_JOINED: u8 = 1;
-
-    pub const DS_LEFT: u8 = 2;
-
     // A record goes from `before` to `after`.
     pub fn of(
         s: Settings,

@@ -4,3 +4,4 @@ pub mod RecordTrip
 pub mod Standings
 pub mod Surveys
 pub mod HostLaws
+pub mod CallsInRow

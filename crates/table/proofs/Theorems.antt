@@ -1,3 +1,4 @@
+pub mod Worded
 pub mod Gives
 pub mod MarkedCases
 pub mod RefusedExactly
@@ -7,3 +8,6 @@ pub mod Timeouts
 pub mod Well
 pub mod StepKeeps
 pub mod DiscardLeaves
+pub mod PlacesKept
+pub mod SaidBack
+pub mod SaidExamples

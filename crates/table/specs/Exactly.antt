@@ -3,25 +3,24 @@
 -- Assumes nothing.
 use Prim.Native.Nat.{ℕ}
 use mathlib.Core.Path.{_≡_}
-use mathlib.Core.Bool.{Bool, true, not, _&&_, _||_}
+use mathlib.Core.Bool.{Bool, true, false, not, _&&_, _||_}
 use mathlib.Core.List.{List, [], _∷_, _++_}
-use lib.Dec.{ltb, eqb}
+use lib.Dec.{ltb, leb, eqb}
 use lib.ListN.{length}
 use Rattle.octets.specs.Address.{validOf}
 use Rattle.octets.specs.Field.{field}
 use Rattle.octets.specs.Class.{classOf, classless}
 use Rattle.octets.specs.Shape.{isBare, leastOf}
 use Rattle.octets.specs.Frame.{longest}
+use Rattle.octets.specs.declared.heard.Kind.the-variants.{Authentication, Association, Reassociation}
+use Rattle.peer.specs.Settings.{ap, station}
+use Rattle.peer.specs.Record.{associates, awaitingOf, isAsked, isFree, isJoined, underWay}
 use Rattle.peer.specs.declared.settings.Settings.{Settings}
 use Rattle.peer.specs.declared.record.Record.{Record}
-use Rattle.table.specs.Places.{allOf, addressesOf, findOf}
+use Rattle.table.specs.Places.{allOf}
 use Rattle.table.specs.Fit.{wellFormed}
-use Rattle.table.specs.Others.{othersOf}
 use Rattle.table.specs.Answer.{refusalAnswer}
-use Rattle.table.specs.Seat.{peerOf}
 use Rattle.table.specs.Read.{forUs}
-use Rattle.table.specs.Ask.{refusalsAt}
-use Rattle.table.specs.Pass.{passRefusals}
 use Rattle.table.specs.declared.rules.answer.Stepped.{Stepped}
 use Rattle.table.specs.declared.rules.event.Event.{Event}
 use Rattle.table.specs.declared.rules.event.Event.the-variants as event
@@ -69,15 +68,118 @@ readRefusals own xs =
 abbrev pub frameRefusals : Settings → List Record → List ℕ → ℕ → List (ℕ × Bool)
 frameRefusals s t xs n = (1, ltb n longest) ∷ (2, not (wellFormed s t)) ∷ readRefusals (s .own) xs
 
+-- Some element passes a test.
+unfoldable pub someOf : {A : Type 0} → (A → Bool) → List A → Bool
+someOf f [] = false
+someOf f (p ∷ ps) = f p || someOf f ps
+
+-- What the table of primitives says of one: its number, for which role it is, which codes it takes.
+pub data Who : Type 0 where
+  at-station : Who
+  at-ap : Who
+  at-both : Who
+
+pub data Codes : Type 0 where
+  zero-only : Codes
+  not-zero : Codes
+  zero-or-one : Codes
+  any : Codes
+
+pub record Primitive : Type 0 where
+  pub number : ℕ
+  pub who : Who
+  pub codes : Codes
+
+-- "1 acknowledged, 0 not"; a status is any number
+abbrev pub taken : Codes → ℕ → Bool
+taken zero-only c = eqb c 0
+taken not-zero c = not (eqb c 0)
+taken zero-or-one c = leb c 1
+taken any c = true
+
+abbrev pub plays : Who → ℕ → Bool
+plays at-station role = eqb role station
+plays at-ap role = eqb role ap
+plays at-both role = true
+
+-- 01, "Primitives from our own side", its table: number, for whom, codes.
+abbrev pub primitives : List Primitive
+primitives =
+    record { number = 1; who = at-station; codes = zero-only }
+    ∷ record { number = 2; who = at-ap; codes = any }
+    ∷ record { number = 3; who = at-both; codes = not-zero }
+    ∷ record { number = 4; who = at-station; codes = zero-only }
+    ∷ record { number = 5; who = at-station; codes = zero-only }
+    ∷ record { number = 6; who = at-both; codes = not-zero }
+    ∷ record { number = 7; who = at-ap; codes = any }
+    ∷ record { number = 8; who = at-ap; codes = any }
+    ∷ record { number = 9; who = at-both; codes = zero-only }
+    ∷ record { number = 10; who = at-ap; codes = zero-or-one }
+    ∷ []
+
+-- Some line of that table has this number and passes a test.
+abbrev pub row : ℕ → (Primitive → Bool) → Bool
+row q f = someOf (λ r. eqb q (r .number) && f r) primitives
+
+-- Some record of the table is this peer's and passes a test; some other record passes it.
+abbrev pub peerHas : List Record → ℕ → (Record → Bool) → Bool
+peerHas t a f = someOf (λ p. eqb (p .address) a && f p) t
+
+abbrev pub otherHas : List Record → ℕ → (Record → Bool) → Bool
+otherHas t a f = someOf (λ p. not (eqb (p .address) a) && f p) t
+
+-- 3: "unknown primitive; peer address invalid or own; code not allowed"
+abbrev pub notToBeAsked : Settings → ℕ → ℕ → ℕ → Bool
+notToBeAsked s q a c =
+    not (row q (λ r. true)) || (not (validOf a) || (eqb a (s .own) || row q (λ r. not (taken (r .codes) c))))
+
+abbrev pub hasExchange : Record → Bool
+hasExchange p = not (eqb (underWay (p .exchange)) 0)
+
+-- 9: "an exchange already under way". 1: "if this record has an exchange"; 4, 5: "if this record has an exchange or any has a (re)association".
+abbrev pub underWayAlready : List Record → ℕ → ℕ → Bool
+underWayAlready t q a =
+    (eqb q 1 && peerHas t a hasExchange)
+    || ((eqb q 4 || eqb q 5) && (peerHas t a hasExchange || someOf associates t))
+
+-- 7: "the primitive finds no matching exchange or state". 2, 7, 8: "unless that is asked"; 4: "if another record is in State 3 or 4";
+-- 9: "State 3 to 4; State 4 kept; else 7"; 10: "unless awaited".
+abbrev pub noMatch : List Record → ℕ → ℕ → Bool
+noMatch t q a =
+    (eqb q 2 && not (peerHas t a (λ p. isAsked Authentication (p .exchange))))
+    || ((eqb q 4 && otherHas t a isJoined)
+    || ((eqb q 7 && not (peerHas t a (λ p. isAsked Association (p .exchange))))
+    || ((eqb q 8 && not (peerHas t a (λ p. isAsked Reassociation (p .exchange))))
+    || ((eqb q 9 && not (peerHas t a isJoined))
+    || (eqb q 10 && not (peerHas t a (λ p. not (eqb (awaitingOf (p .exchange)) 0))))))))
+
+-- 8: "the hold on this peer is above 0", for 4 and 5
+abbrev pub peerHeld : List Record → ℕ → ℕ → Bool
+peerHeld t q a = (eqb q 4 || eqb q 5) && peerHas t a (λ p. ltb 0 (p .hold))
+
+-- 6: "a new record is needed by a primitive and no place is free". "Only 1 makes a record."
+abbrev pub noRoom : List Record → ℕ → ℕ → Bool
+noRoom t q a = eqb q 1 && (not (peerHas t a (λ p. true)) && not (someOf isFree t))
+
 -- "primitives 1, 2, 3, 5, 9, 7, 8, 6"
 abbrev pub askRefusals : Settings → List Record → ℕ → ℕ → ℕ → ℕ → List (ℕ × Bool)
 askRefusals s t q a c n =
     (1, ltb n longest)
     ∷ (2, not (wellFormed s t))
-    ∷ refusalsAt s (peerOf t (findOf (addressesOf t) a) a) (othersOf s t) (findOf (addressesOf t) a) (findOf (addressesOf t) 0) q a c
+    ∷ (3, notToBeAsked s q a c)
+    ∷ (5, row q (λ r. not (plays (r .who) (s .role))))
+    ∷ (9, underWayAlready t q a)
+    ∷ (7, noMatch t q a)
+    ∷ (8, peerHeld t q a)
+    ∷ (6, noRoom t q a)
+    ∷ []
+
+-- "clock 1, 2, 3": "(256 for a clock step)", "clock step 0"
+abbrev pub clockRefusals : Settings → List Record → ℕ → ℕ → List (ℕ × Bool)
+clockRefusals s t d n = (1, ltb n 256) ∷ (2, not (wellFormed s t)) ∷ (3, eqb d 0) ∷ []
 
 -- "First that applies: primitives 1, 2, 3, 5, 9, 7, 8, 6; frames as in the next section; clock 1, 2, 3."
 abbrev pub refusalsOf : Settings → List Record → Event → List ℕ → ℕ → List (ℕ × Bool)
 refusalsOf s t event.Frame xs n = frameRefusals s t xs n
 refusalsOf s t (event.Ask q a c) xs n = askRefusals s t q a c n
-refusalsOf s t (event.Clock d) xs n = passRefusals s t d n
+refusalsOf s t (event.Clock d) xs n = clockRefusals s t d n

@@ -16,3 +16,5 @@ pub mod Marked
 pub mod Exactly
 pub mod Written
 pub mod Order
+pub mod Calls
+pub mod Meant

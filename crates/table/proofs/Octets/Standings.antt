@@ -5,7 +5,7 @@ use mathlib.Core.Bool.{Bool, true, false, not, _&&_, _||_}
 use Prim.Native.Nat.{ℕ, zero, suc, _≤_, _<_}
 use native.Mathlib.Omega.{arith}
 use lib.Dec.{eqb, leb, ltb}
-use borrow.Author.Tests.{lt-leb, le-ltb, ne-eqb, eqb-false, eqb-true, leb-true, not-true}
+use borrow.Author.Tests.{le-leb, lt-leb, le-ltb, ne-eqb, eqb-false, eqb-true, leb-true, not-true}
 use Rattle.octets.specs.Address.{validOf}
 use Rattle.octets.specs.Row.{noRow}
 use Rattle.octets.specs.declared.row.Row.{Row}
@@ -13,7 +13,7 @@ use Rattle.octets.proofs.Branch.{and-left, and-right}
 use Rattle.peer.proofs.Fits.{both}
 use Rattle.peer.specs.Fit.{askedFits, awaitingFits, exchangeFits, holdFits, recordFits, sentFits, stands}
 use Rattle.peer.specs.Record.{associates, exchangeOf, isFree, underWay}
-use Rattle.peer.specs.Settings.{ap, settingsFit, station}
+use Rattle.peer.specs.Settings.{ap, settingsFit, station, timeFits}
 use Rattle.peer.specs.declared.settings.Settings.{Settings}
 use Rattle.table.specs.Rows.{recordOf}
 use Rattle.table.specs.declared.host.standing.Standing.{Standing}
@@ -50,19 +50,22 @@ ap-untimed e state =
 
 -- At a station none has no time left; with time left 7, or from State 2 on 8 and 9.
 pub station-untimed : (e state : ℕ) → (leb e 9 && exchangeFits (exchangeOf e) station state 0) ≡ eqb e 0
-unfolding exchangeOf askedFits awaitingFits sentFits
+unfolding exchangeOf askedFits awaitingFits sentFits timeFits
 station-untimed e state =
     by-number (λ e. (leb e 9 && exchangeFits (exchangeOf e) station state 0) ≡ eqb e 0)
     refl refl refl refl refl refl refl refl refl refl
     (λ n m. rw (lt-leb n 9 m, ne-eqb n 0 (omega arith))) e
 
-pub station-timed : (e state left : ℕ) → eqb left 0 ≡ false → (leb e 9 && exchangeFits (exchangeOf e) station state left) ≡ (eqb e 7 || ((leb 8 e && leb e 9) && leb 2 state))
-unfolding exchangeOf askedFits awaitingFits sentFits stands
-station-timed e state left h =
+pub station-timed : (e state left : ℕ) → eqb left 0 ≡ false → left ≤ 65535 → (leb e 9 && exchangeFits (exchangeOf e) station state left) ≡ (eqb e 7 || ((leb 8 e && leb e 9) && leb 2 state))
+unfolding exchangeOf askedFits awaitingFits sentFits timeFits stands
+station-timed e state left h l =
     by-number (λ e. (leb e 9 && exchangeFits (exchangeOf e) station state left) ≡ (eqb e 7 || ((leb 8 e && leb e 9) && leb 2 state)))
-    (rw h) refl refl refl refl refl refl (rw h) (rw h) (rw h)
+    (rw h) refl refl refl refl refl refl (rw (h, top)) (rw (h, top)) (rw (h, top))
     (λ n m. rw (lt-leb n 9 m, ne-eqb n 7 (omega arith)) (none (leb 8 n))) e
   where
+    top : leb left 65535 ≡ true
+    top = le-leb left 65535 l
+
     none : (b : Bool) → false ≡ ((b && false) && leb 2 state)
     none true = refl
     none false = refl

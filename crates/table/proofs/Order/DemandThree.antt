@@ -13,13 +13,13 @@ use Rattle.peer.specs.declared.record.Record.{Record}
 use Rattle.table.specs.Order.{Local, Moved, Named, SameOutcome, Handed, happens, eventOf, octetsOf, Whole, peerNamed, addressOf, OrderFree}
 use Rattle.table.proofs.Order.AnyOrder.{any-order, coarser}
 use Rattle.table.proofs.Order.OwnTurn.{acts, alone, next, said, same-of, stays}
-use Rattle.table.proofs.Theorems.StepKeeps.{step-keeps}
+use Rattle.table.proofs.Theorems.StepKeeps.{step-keeps-at-ap}
 
 module _ (s : Settings) (role : s .role ≡ accessPoint) where
   -- the law `keeps`: each step keeps the table well formed, and its 32 records
   keeps : (t : List Record) (e : Handed) (i : ℕ) → Whole s t → i < length t → peerNamed s e ≡ some (addressOf (getD t i freeOf)) → Whole s (happens s t e .0)
   unfolding happens
-  keeps t e i w h k = step-keeps s t (w .0) (w .1) (eventOf (e .coming)) (octetsOf (e .coming)) (length (e .out))
+  keeps t e i w h k = step-keeps-at-ap s role t (w .0) (w .1) (eventOf (e .coming)) (octetsOf (e .coming)) (length (e .out))
 
   local : Local freeOf addressOf (peerNamed s) (Whole s) (happens s) (next s) (said s) (alone s)
   local =

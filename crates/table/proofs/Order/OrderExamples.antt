@@ -13,7 +13,7 @@ use Rattle.octets.specs.Element.{walk}
 use Rattle.octets.specs.Heard.{authenticationOf, responseOf, heardOf}
 use Rattle.octets.specs.Shape.{leastManagement, isBare, leastOf, shapeOf}
 use Rattle.octets.specs.Frame.{capabilityOf, aidField, headOf, bodyOf, bytesOf, writtenOf, lengthOf}
-use Rattle.peer.specs.Settings.{settingsFit}
+use Rattle.peer.specs.Settings.{settingsFit, timeFits}
 use Rattle.peer.specs.Record.{isJoined, associates, freeOf, freshOf, isFree, changedOf}
 use Rattle.peer.specs.Fit.{stands, askedFits, awaitingFits, sentFits, holdFits, recordFits, placeFits}
 use Rattle.peer.specs.Moves.{dsOf}
@@ -108,7 +108,7 @@ pub record AtWork : Type 0 where
 
 pub at-work : AtWork
 unfolding validOf groupOf octets classOf walk authenticationOf responseOf heardOf leastManagement isBare leastOf shapeOf capabilityOf
-    aidField headOf bodyOf bytesOf writtenOf lengthOf settingsFit isJoined associates freshOf isFree changedOf stands askedFits awaitingFits
+    aidField headOf bodyOf bytesOf writtenOf lengthOf settingsFit timeFits isJoined associates freshOf isFree changedOf stands askedFits awaitingFits
     sentFits holdFits recordFits placeFits dsOf apAddress sendOf authenticationTo disassociationTo requestTo responseTo turnOf endedOf
     begunOf repliedOf stillOf barredOf requestedOf authenticationAtAp answeredMove authenticationAtStation authenticationHeard
     deauthenticationHeard requestHeard rejectedOf responseHeard hearOf codeAllowed roleAllowed joinConflict conflictOf joinedElsewhere

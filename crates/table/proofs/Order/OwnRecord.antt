@@ -1,6 +1,5 @@
 -- A peer's own record, in the table and under the rules: what demand 3 stands on.
 --     find-at                in a table in which no address stands twice, a peer is found at its place
---     hear-kept, ask-kept    no rule changes a record's address
 --     hear-alone, ask-alone  at an access point no rule touches another record
 -- Assumes nothing.
 use Prim.Native.Nat.{ℕ, zero, suc, _+_, _<_}
@@ -22,13 +21,13 @@ use Rattle.octets.specs.declared.heard.Kind.{Kind}
 use Rattle.octets.specs.declared.heard.Kind.the-variants as kind
 use Rattle.octets.specs.declared.element.Comeback.{Comeback}
 use Rattle.peer.specs.Settings.{ap as accessPoint, settingsFit}
-use Rattle.peer.specs.Record.{freeOf, changedOf, sentOf, underWay, kindOf, isFree}
+use Rattle.peer.specs.Record.{freeOf, sentOf, underWay, isFree, isSent}
 use Rattle.peer.specs.Fit.{exchangeFits, holdFits, placeFits, recordFits, sentFits}
-use Rattle.peer.specs.Turn.{turnOf, soleOf, endedOf, begunOf, repliedOf, stillOf}
+use Rattle.peer.specs.Turn.{turnOf, repliedOf, stillOf}
 use Rattle.peer.specs.Filter.{passesOf}
 use Rattle.peer.specs.Authentication.{requestedOf, authenticationAtAp, authenticationAtStation, authenticationHeard}
 use Rattle.peer.specs.Farewell.{deauthenticationHeard, disassociationHeard}
-use Rattle.peer.specs.Association.{requestHeard, acceptedOf, rejectedOf, responseHeard}
+use Rattle.peer.specs.Association.{requestHeard, responseHeard}
 use Rattle.peer.specs.Hear.{isExchange, actOf, groupHeard, hearOf}
 use Rattle.peer.specs.Ask.{startedOf, answerOf, deauthenticateOf, failedOf, associateOf, reassociateOf, disassociateOf, awaitedOf, declinedOf, respondOf, secureOf, reportOf, askOf}
 use Rattle.peer.specs.declared.settings.Settings.{Settings}
@@ -90,45 +89,6 @@ unfolding wellFormed
 wf-fits s t w =
     and-left (allOf (placeFits s) t) (distinctOf (addressesOf t) && sparseOf s t) (and-right (settingsFit s) (allOf (placeFits s) t && (distinctOf (addressesOf t) && sparseOf s t)) w)
 
--- no rule changes a record's address
-abbrev pub Kept : Record → Turn → Type 0
-Kept p t = t .peer .address ≡ p .address
-
-module _ (s : Settings) (p : Record) where
-  act-kept : (h : Heard) → Kept p (actOf s p h)
-  unfolding stillOf repliedOf turnOf soleOf begunOf endedOf changedOf authenticationHeard authenticationAtAp authenticationAtStation requestedOf deauthenticationHeard disassociationHeard requestHeard responseHeard acceptedOf rejectedOf
-  act-kept heard.Other = refl
-  act-kept (heard.Authentication algorithm transaction status) =
-      pick-both (Kept p) (eqb (s .role) accessPoint)
-      (pick-both (Kept p) (eqb transaction 1) (pick-both (Kept p) (eqb algorithm 0) refl refl) refl)
-      (pick-both (Kept p) (eqb algorithm 0 && (eqb transaction 2 && eqb (sentOf (p .exchange)) 1)) refl refl)
-  act-kept (heard.Deauthentication reason) = pick-both (Kept p) (ltb (p .state) 2) refl refl
-  act-kept (heard.Disassociation reason) = pick-both (Kept p) (ltb (p .state) 3) refl refl
-  act-kept (heard.Request k current) = pick-both (Kept p) (eqb (s .role) accessPoint) refl refl
-  act-kept (heard.Response k status aid c) =
-      pick-both (Kept p) (eqb (sentOf (p .exchange)) (kindOf k))
-      (pick-both (Kept p) (eqb status 0) (pick-both (Kept p) (eqb aid 0 || ltb 2007 aid) refl refl) refl)
-      refl
-
-  pub hear-kept : (k : FrameClass) (group : Bool) (h : Heard) → Kept p (hearOf s p k group h)
-  unfolding hearOf groupHeard stillOf repliedOf turnOf
-  hear-kept k group h =
-      pick-both (Kept p) (not (passesOf k (p .state))) refl
-      (pick-both (Kept p) group (pick-both (Kept p) (isExchange h) refl (act-kept h)) (act-kept h))
-
-  pub ask-kept : (aid : ℕ) (o : Others) (q c : ℕ) → Kept p (askOf s aid p o q c)
-  unfolding askOf startedOf answerOf deauthenticateOf associateOf reassociateOf failedOf disassociateOf respondOf awaitedOf declinedOf secureOf reportOf turnOf begunOf endedOf changedOf
-  ask-kept aid o q c =
-      pick-both (Kept p) (eqb q 1) refl
-      (pick-both (Kept p) (eqb q 2) refl
-      (pick-both (Kept p) (eqb q 3) refl
-      (pick-both (Kept p) (eqb q 4) (pick-both (Kept p) (eqb (p .state) 1) refl refl)
-      (pick-both (Kept p) (eqb q 5) (pick-both (Kept p) (eqb (o .associated) 0 || eqb (p .state) 1) refl refl)
-      (pick-both (Kept p) (eqb q 6) (pick-both (Kept p) (ltb (p .state) 3) refl refl)
-      (pick-both (Kept p) (eqb q 7) (pick-both (Kept p) (eqb c 0) refl refl)
-      (pick-both (Kept p) (eqb q 8) (pick-both (Kept p) (eqb c 0) refl refl)
-      (pick-both (Kept p) (eqb q 9) refl refl))))))))
-
 -- no rule touches another record: at an access point no exchange is sent
 abbrev pub Alone : Turn → Type 0
 Alone t = t .sole ≡ false
@@ -181,7 +141,7 @@ module _ (s : Settings) (p : Record) (r : s .role ≡ accessPoint) (w : placeFit
   act-alone (heard.Authentication algorithm transaction status) =
       pick-both Alone (eqb (s .role) accessPoint)
       (pick-both Alone (eqb transaction 1) (pick-both Alone (eqb algorithm 0) refl refl) refl)
-      (pick-both Alone (eqb algorithm 0 && (eqb transaction 2 && eqb (sentOf (p .exchange)) 1)) refl refl)
+      (pick-both Alone (eqb algorithm 0 && (eqb transaction 2 && isSent kind.Authentication (p .exchange))) refl refl)
   act-alone (heard.Deauthentication reason) = pick-both Alone (ltb (p .state) 2) refl refl
   act-alone (heard.Disassociation reason) = pick-both Alone (ltb (p .state) 3) refl refl
   act-alone (heard.Request k current) = pick-both Alone (eqb (s .role) accessPoint) refl refl

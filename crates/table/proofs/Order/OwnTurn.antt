@@ -20,6 +20,7 @@ use Rattle.peer.specs.Turn.{admit, discard}
 use Rattle.peer.specs.Hear.{hearOf}
 use Rattle.peer.specs.Refuse.{roleAllowed}
 use Rattle.peer.specs.Ask.{askOf}
+use Rattle.peer.proofs.ErrorsThatLookRight.{ask-kept, hear-kept}
 use Rattle.peer.specs.declared.settings.Settings.{Settings}
 use Rattle.peer.specs.declared.record.Record.{Record}
 use Rattle.peer.specs.declared.refuse.Others.{Others}
@@ -39,7 +40,7 @@ use Rattle.table.specs.declared.rules.read.Reading.{Reading}
 use Rattle.table.specs.declared.rules.read.Reading.the-variants.{Refused, Discarded, Admitted, From}
 use Rattle.table.specs.declared.rules.answer.Answer.{Answer}
 use Rattle.table.specs.declared.rules.answer.Met.{Met}
-use Rattle.table.proofs.Order.OwnRecord.{all-at, find-at, wf-distinct, wf-fits, Alone, hear-kept, ask-kept, hear-alone, ask-alone}
+use Rattle.table.proofs.Order.OwnRecord.{all-at, find-at, wf-distinct, wf-fits, Alone, hear-alone, ask-alone}
 use Rattle.table.proofs.Order.NamedPeer.{coming-some, named-long, nobody}
 
 -- what an event comes to: at a peer's place and record; and where it names none

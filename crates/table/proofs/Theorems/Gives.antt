@@ -29,6 +29,7 @@ use Rattle.table.specs.Read.{forUs, readBare, readFrom, readFull, readOf
 use Rattle.table.specs.Receive.{heardFrom, heardAt, receivedOf}
 use Rattle.table.specs.Ask.{refusalsAt, askedAt, askedOf}
 use Rattle.table.specs.Exactly.{readRefusals, frameRefusals, askRefusals}
+use Rattle.table.proofs.Theorems.Worded.{ruledList, worded}
 use Rattle.table.specs.declared.rules.seat.Found.{Found}
 use Rattle.table.specs.declared.rules.seat.Found.the-variants.{At, Nothing}
 use Rattle.table.specs.declared.rules.read.Reading.{Reading}
@@ -94,8 +95,11 @@ asked-at-gives s t ads q a c =
     let turn = askOf s (aidOf at) (peerOf t at a) (othersOf s t) q c in
     unless-gives _ (turn-gives t at (findOf ads 0) turn turn)
 
-pub asked-gives : (s : Settings) (t : List Record) (q a c n : ℕ) → Gives t (firstOf (askRefusals s t q a c n)) (askedOf s t q a c n)
+ruled-gives : (s : Settings) (t : List Record) (q a c n : ℕ) → Gives t (firstOf (ruledList s t q a c n)) (askedOf s t q a c n)
 unfolding askedOf firstOf unless
-asked-gives s t q a c n =
+ruled-gives s t q a c n =
     by-bool (ltb n longest) (λ e. simp e refuses) (λ e.
     by-bool (wellFormed s t) (λ b. simp (e, b) (asked-at-gives s t (addressesOf t) q a c)) (λ b. simp (e, b) refuses))
+
+pub asked-gives : (s : Settings) (t : List Record) (q a c n : ℕ) → Gives t (firstOf (askRefusals s t q a c n)) (askedOf s t q a c n)
+asked-gives s t q a c n = rw (worded s t q a c n) (ruled-gives s t q a c n)

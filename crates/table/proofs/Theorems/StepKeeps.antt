@@ -7,18 +7,19 @@ use mathlib.Core.List.{List, _∷_, map}
 use native.Mathlib.Omega.{arith}
 use lib.Dec.{eqb, leb, ltb}
 use lib.ListN.{length, length-map}
-use borrow.Author.Tests.{eqb-false, leb-true, ltb-false, not-false, not-true}
+use borrow.Author.Tests.{eq-eqb, eqb-false, leb-true, ltb-false, not-false, not-true}
 use mathlib.Core.Logic.{_≢_}
+use Rattle.octets.proofs.Below.{heard-fits}
 use Rattle.octets.proofs.Branch.{by-bool}
 use Rattle.octets.specs.Address.{validOf, groupOf}
 use Rattle.octets.specs.Class.{classOf}
-use Rattle.octets.specs.Field.{field}
+use Rattle.octets.specs.Field.{allOctets, field}
 use Rattle.octets.specs.Frame.{longest}
 use Rattle.octets.specs.Heard.{heardOf}
 use Rattle.octets.specs.Shape.{shapeOf}
 use Rattle.octets.specs.declared.shape.Shape.{Shape}
 use Rattle.octets.specs.declared.shape.Shape.the-variants.{Misfit, Classless, Bare, Full}
-use Rattle.peer.proofs.Fits.{both, or-left, wrong}
+use Rattle.peer.proofs.Fits.{both, clash, or-left, wrong}
 use Rattle.peer.proofs.AskKeeps.{ask-keeps}
 use Rattle.peer.proofs.HearKeeps.{backed, hear-keeps}
 use Rattle.peer.proofs.TickKeeps.{tick-keeps}
@@ -45,11 +46,25 @@ use Rattle.table.specs.declared.rules.event.Event.the-variants as event
 use Rattle.table.proofs.Theorems.Well.{Well, in-turn, of-well, well-of}
 use Rattle.table.proofs.Passes.Lists.{all-map, count-map, distinct-map}
 
--- the statement: both roles, every rule, all events
+-- A table is as it must be after an event, with the octets xs where the event is a frame.
+abbrev KeptBy : Settings → List Record → Event → List ℕ → ℕ → Type 0
+KeptBy s t e xs n = (wellFormed s (stepOf s t e xs n .table) ≡ true) × (length (stepOf s t e xs n .table) ≡ 32)
+
+-- the statement: both roles, every rule, all events; a frame is octets
 abbrev pub EachStepKeeps : Type 0
 EachStepKeeps =
-    (s : Settings) (t : List Record) → wellFormed s t ≡ true → length t ≡ 32 → (e : Event) (xs : List ℕ) (n : ℕ)
-    → (wellFormed s (stepOf s t e xs n .table) ≡ true) × (length (stepOf s t e xs n .table) ≡ 32)
+    (s : Settings) (t : List Record) → wellFormed s t ≡ true → length t ≡ 32 → (e : Event) (xs : List ℕ) → allOctets xs ≡ true → (n : ℕ)
+    → KeptBy s t e xs n
+
+-- at an access point, which sets no hold by what a frame says, it need not be
+abbrev pub EachStepKeepsAtAp : Type 0
+EachStepKeepsAtAp =
+    (s : Settings) → s .role ≡ ap → (t : List Record) → wellFormed s t ≡ true → length t ≡ 32 → (e : Event) (xs : List ℕ) (n : ℕ)
+    → KeptBy s t e xs n
+
+-- what is asked of a frame: at a station, that it is octets
+abbrev Framed : Settings → List ℕ → Type 0
+Framed s xs = eqb (s .role) ap ≡ false → allOctets xs ≡ true
 
 is-station : (s : Settings) → settingsFit s ≡ true → eqb (s .role) ap ≡ false → s .role ≡ station
 unfolding settingsFit
@@ -63,12 +78,12 @@ is-station s h r =
 -- ---- frames
 
 module _ (s : Settings) (t : List Record) (w : Well s t) where
-  heard : (xs : List ℕ) (shape : Shape) → Well s (heardAt s t (addressesOf t) (readAs shape (s .own) xs) .table)
+  heard : (xs : List ℕ) → Framed s xs → (shape : Shape) → Well s (heardAt s t (addressesOf t) (readAs shape (s .own) xs) .table)
   unfolding refusedOf settledOf readBare readFull readFrom heardFrom
-  heard xs Misfit = w
-  heard xs Classless = w
-  heard xs Bare = by-bool (forUs (s .own) (field 6 4 xs)) (λ e. rw e w) (λ e. rw e w)
-  heard xs Full = by-bool (not (forUs (s .own) (field 6 4 xs)))
+  heard xs o Misfit = w
+  heard xs o Classless = w
+  heard xs o Bare = by-bool (forUs (s .own) (field 6 4 xs)) (λ e. rw e w) (λ e. rw e w)
+  heard xs o Full = by-bool (not (forUs (s .own) (field 6 4 xs)))
       (λ e. rw e w)
       (λ e. by-bool (eqb (field 6 10 xs) (s .own) || not (validOf (field 6 10 xs)))
       (λ g. rw (e, g) w)
@@ -77,13 +92,13 @@ module _ (s : Settings) (t : List Record) (w : Well s t) where
       rw (e, g) (in-turn s t w true (λ r b. wrong (sym b)) (field 6 10 xs) (rw (n .0)) (not-false _ (n .1))
       (findOf (addressesOf t) (field 6 10 xs)) (findOf (addressesOf t) 0) _ _ refl
       (λ f. hear-keeps s true (peerOf t (findOf (addressesOf t) (field 6 10 xs)) (field 6 10 xs)) f
-      (classOf xs) (groupOf (field 6 4 xs)) (heardOf xs) (backed xs)))))
+      (classOf xs) (groupOf (field 6 4 xs)) (heardOf xs) (backed xs) (λ r. heard-fits xs (o r))))))
 
-  frame-keeps : (xs : List ℕ) (n : ℕ) → Well s (receivedOf s t xs n .table)
+  frame-keeps : (xs : List ℕ) → Framed s xs → (n : ℕ) → Well s (receivedOf s t xs n .table)
   unfolding receivedOf refusedOf settledOf readOf
-  frame-keeps xs n = by-bool (ltb n longest)
+  frame-keeps xs o n = by-bool (ltb n longest)
       (λ e. rw e w)
-      (λ e. rw (e, of-well s t w) (heard xs (shapeOf xs)))
+      (λ e. rw (e, of-well s t w) (heard xs o (shapeOf xs)))
 
   -- ---- primitives
 
@@ -136,15 +151,21 @@ module _ (s : Settings) (t : List Record) (w : Well s t) where
         associating = λ r. omega (arith, w .associating r, count-map (placeFits s) associates associates (afterOf s d) (λ p h. tick-keeps s p d h .starts r refl) t (w .places));
       }
 
-  stepped : (e : Event) (xs : List ℕ) (n : ℕ) → Well s (stepOf s t e xs n .table)
+  stepped : (e : Event) (xs : List ℕ) → Framed s xs → (n : ℕ) → Well s (stepOf s t e xs n .table)
   unfolding steppedOf
-  stepped event.Frame xs n = frame-keeps xs n
-  stepped (event.Ask q a c) xs n = primitive-keeps q a c n
-  stepped (event.Clock d) xs n = clock-keeps d n
+  stepped event.Frame xs o n = frame-keeps xs o n
+  stepped (event.Ask q a c) xs o n = primitive-keeps q a c n
+  stepped (event.Clock d) xs o n = clock-keeps d n
 
--- ---- the theorem
+-- ---- the theorems
+
+kept-by : (s : Settings) (t : List Record) → wellFormed s t ≡ true → length t ≡ 32 → (e : Event) (xs : List ℕ) → Framed s xs → (n : ℕ) → KeptBy s t e xs n
+kept-by s t h l e xs o n =
+    let k = stepped s t (well-of s t h l) e xs o n in
+    (of-well s (stepOf s t e xs n .table) k, k .long)
 
 pub step-keeps : EachStepKeeps
-step-keeps s t h l e xs n =
-    let k = stepped s t (well-of s t h l) e xs n in
-    (of-well s (stepOf s t e xs n .table) k, k .long)
+step-keeps s t h l e xs o n = kept-by s t h l e xs (λ r. o) n
+
+pub step-keeps-at-ap : EachStepKeepsAtAp
+step-keeps-at-ap s role t h l e xs n = kept-by s t h l e xs (λ r. clash (eq-eqb (s .role) ap role) r) n

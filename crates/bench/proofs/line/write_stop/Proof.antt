@@ -1,51 +1,44 @@
--- `bench::line::write_stop` meets its contract: five octets, one behind the other; a short buffer is not written.
+-- `bench::line::write_stop` meets its contract: five octets, where there is room.
 -- Assumes nothing.
-use Rattle.bench.specs.Line.{stopIn, stopLength}
-use Rattle.octets.proofs.Stores.{front, then}
+use Prim.Native.Nat.{_+_, _≤_}
+use Rattle.bench.proofs.Outputs.{put-none, put-stored}
 use borrow.Author.Needs.{needs}
-use borrow.Author.Tests.{le-ltb, lt-ltb}
-use mathlib.Core.Path.{refl}
+use borrow.Author.Tests.{leb-true}
+use denote.Ref.{now}
+use lib.ListN.{length}
+use mathlib.Core.Path.{sym, _∙_}
 use native.Mathlib.Omega.{arith}
 use Rattle.bench.proofs.line.write_stop.Statement.{statement}
 use Rattle.bench.proofs.line.write_stop.Tie as tie
 
+has-room-requires : tie.Need-has-room-requires
+has-room-requires c κs = search needs
+
 returns : tie.Need-returns
-unfolding stopLength stopIn
-returns c = rw (lt-ltb _ _ (c .if1 .taken)) (refl, refl)
+returns c = put-none _ _ (sym (c .before .has-room .ensures) ∙ c .if1 .left)
 
-put-octet-requires : tie.Need-put-octet-requires
-put-octet-requires c κs = search needs
+slice-aggregate-put-word : tie.Need-slice-aggregate-put-word
+slice-aggregate-put-word c = search needs
 
-put-octet-requires-2 : tie.Need-put-octet-requires-2
-put-octet-requires-2 c κs = search needs
-
-put-octet-requires-3 : tie.Need-put-octet-requires-3
-put-octet-requires-3 c κs = search needs
-
-put-octet-requires-4 : tie.Need-put-octet-requires-4
-put-octet-requires-4 c κs = search needs
-
-put-octet-requires-5 : tie.Need-put-octet-requires-5
-put-octet-requires-5 c κs = search needs
+put-word-requires : tie.Need-put-word-requires
+put-word-requires c κs =
+    let a = c .before .before .before .before .before .args in
+    let r : a .at + 64 ≤ length (now (a .out)) = leb-true _ _ (sym (c .before .before .before .has-room .ensures) ∙ c .before .before .if1 .taken) in
+    omega arith
 
 same-length : tie.Need-same-length
 same-length c = search needs
 
 returns-2 : tie.Need-returns-2
-unfolding stopLength stopIn
-returns-2 c =
-    rw (le-ltb _ _ (c .before .before .before .before .before .before .before .before .before .before .before .before .before .before .before .before .before .before .before .before .if1 .left))
-    (refl, front (then (then (then (then (c .before .before .before .before .before .before .before .before .before .before .before .before .before .before .before .before .before .before .put-octet .ensures) (c .before .before .before .before .before .before .before .before .before .before .before .before .before .before .put-octet2 .ensures) refl) (c .before .before .before .before .before .before .before .before .before .before .put-octet3 .ensures) refl) (c .before .before .before .before .before .before .put-octet4 .ensures) refl) (c .before .before .put-octet5 .ensures) refl) (omega arith))
+returns-2 c = put-stored 64 _ (c .before .before .put-word .ensures .1) (leb-true _ _ (sym (c .before .before .before .before .before .before .has-room .ensures) ∙ c .before .before .before .before .before .if1 .taken)) (omega arith) (c .before .before .put-word .ensures .0)
 
 pub write-stop-spec : {M : Type 1} → statement M
 write-stop-spec =
     tie.close
     (tie.spec
+    has-room-requires
     returns
-    put-octet-requires
-    put-octet-requires-2
-    put-octet-requires-3
-    put-octet-requires-4
-    put-octet-requires-5
+    slice-aggregate-put-word
+    put-word-requires
     same-length
     returns-2)

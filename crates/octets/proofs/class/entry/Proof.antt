@@ -1,27 +1,33 @@
 -- `octets::class::entry` meets its contract: the rule of the table is one test over its 64 entries, which antt computes.
 -- Assumes nothing.
 use Prim.Native.Nat.{_%_, _/_, ℕ}
+use Rattle.octets.proofs.Numbers.{named-number}
 use Rattle.octets.proofs.Table.{rule}
-use Rattle.octets.specs.Class.{classNumber}
+use Rattle.octets.specs.Class.{classNumber, named, numberOf}
+use Rattle.octets.specs.declared.class.FrameClass.{FrameClass}
+use Rattle.octets.specs.declared.class.FrameClass.the-variants.{None, One, Two, Three}
 use borrow.Author.Needs.{needs}
+use lib.ListN.{getD}
 use mathlib.Core.List.{List, [], _∷_}
-use mathlib.Core.List.{[]}
+use mathlib.Core.Path.{_∙_, ap, sym}
 use Rattle.octets.proofs.class.entry.Statement.{statement}
 use Rattle.octets.proofs.class.entry.Tie as tie
 
-classes : List ℕ
+classes : List FrameClass
 classes =
-    2 ∷ 2 ∷ 2 ∷ 2 ∷ 1 ∷ 1 ∷ 0 ∷ 0 ∷ 1 ∷ 1 ∷ 2 ∷ 1 ∷ 1 ∷ 3 ∷ 3 ∷ 0 ∷
-    0 ∷ 0 ∷ 0 ∷ 0 ∷ 0 ∷ 0 ∷ 0 ∷ 0 ∷ 3 ∷ 3 ∷ 3 ∷ 1 ∷ 1 ∷ 1 ∷ 1 ∷ 1 ∷
-    3 ∷ 3 ∷ 3 ∷ 3 ∷ 3 ∷ 3 ∷ 3 ∷ 3 ∷ 3 ∷ 3 ∷ 3 ∷ 3 ∷ 3 ∷ 0 ∷ 3 ∷ 3 ∷
-    0 ∷ 0 ∷ 0 ∷ 0 ∷ 0 ∷ 0 ∷ 0 ∷ 0 ∷ 0 ∷ 0 ∷ 0 ∷ 0 ∷ 0 ∷ 0 ∷ 0 ∷ 0 ∷ []
+    Two ∷ Two ∷ Two ∷ Two ∷ One ∷ One ∷ None ∷ None ∷ One ∷ One ∷ Two ∷ One ∷ One ∷ Three ∷ Three ∷ None ∷
+    None ∷ None ∷ None ∷ None ∷ None ∷ None ∷ None ∷ None ∷ Three ∷ Three ∷ Three ∷ One ∷ One ∷ One ∷ One ∷ One ∷
+    Three ∷ Three ∷ Three ∷ Three ∷ Three ∷ Three ∷ Three ∷ Three ∷ Three ∷ Three ∷ Three ∷ Three ∷ Three ∷ None ∷ Three ∷ Three ∷
+    None ∷ None ∷ None ∷ None ∷ None ∷ None ∷ None ∷ None ∷ None ∷ None ∷ None ∷ None ∷ None ∷ None ∷ None ∷ None ∷ []
 
-array-read-result : tie.Need-array-read-result
-array-read-result c = search needs
+array-copy-out-result : tie.Need-array-copy-out-result
+array-copy-out-result c = search needs
 
 returns : tie.Need-returns
 unfolding classes
-returns c = rule (λ (k : ℕ). classNumber (k / 16) (k % 16)) classes tt (c .args .i) (search needs)
+returns c =
+    let i = c .before .args .i in
+    sym (named-number (getD classes i None)) ∙ ap named (rule None numberOf (λ (k : ℕ). classNumber (k / 16) (k % 16)) classes tt i (search needs))
 
 pub entry-spec : {M : Type 1} → statement M
-entry-spec = tie.close (tie.spec array-read-result returns)
+entry-spec = tie.close (tie.spec array-copy-out-result returns)

@@ -1,7 +1,10 @@
--- `peer::settings::Settings::fit` meets its contract: each answer by the tests that led to it and what its callees ensure.
+-- `peer::settings::Settings::fit` meets its contract: each answer by the tests that led to it and what its callees ensure; the upper ends of the
+-- timeouts by their type.
 -- Assumes nothing.
 use Rattle.octets.proofs.Branch.{tests}
-use Rattle.peer.specs.Settings.{settingsFit}
+use Rattle.peer.specs.Settings.{settingsFit, timeFits}
+use native.Mathlib.Omega.{arith}
+use Prim.Native.Nat.{_≤_}
 use borrow.Author.Needs.{needs}
 use Rattle.peer.proofs.settings.Settings.fit.Statement.{statement}
 use Rattle.peer.proofs.settings.Settings.fit.Tie as tie
@@ -19,19 +22,26 @@ unfolding settingsFit
 returns-3 c = search tests
 
 returns-4 : tie.Need-returns-4
-unfolding settingsFit
+unfolding settingsFit timeFits
 returns-4 c = search tests
 
 returns-5 : tie.Need-returns-5
-unfolding settingsFit
-returns-5 c = search tests
+unfolding settingsFit timeFits
+returns-5 c =
+    let e = c .before .before .before .before .before .before .before .before .before .before in
+    let a : e .args .self .authentication ≤ 65535 = omega arith in
+    search tests
 
 valid-requires : tie.Need-valid-requires
 valid-requires c κs = search needs
 
 returns-6 : tie.Need-returns-6
-unfolding settingsFit
-returns-6 c = search (tests, ← c .valid .ensures)
+unfolding settingsFit timeFits
+returns-6 c =
+    let e = c .before .before .before .before .before .before .before .before .before .before .before in
+    let a : e .args .self .authentication ≤ 65535 = omega arith in
+    let b : e .args .self .association ≤ 65535 = omega arith in
+    search (tests, ← c .valid .ensures)
 
 pub fit-spec : {M : Type 1} → statement M
 fit-spec =

@@ -8,7 +8,8 @@ use Rattle.table.specs.Rows.{recordOf}
 use borrow.Author.Needs.{needs}
 use borrow.Author.Tests.{eq-eqb, le-leb, lt-leb, ne-eqb}
 use lib.Dec.{leb}
-use mathlib.Core.Path.{_∙_, refl, sym}
+use mathlib.Core.Path.{_∙_, sym}
+use native.Mathlib.Omega.{arith}
 use Rattle.table.proofs.host.standing.row_standing.Statement.{statement}
 use Rattle.table.proofs.host.standing.row_standing.Tie as tie
 
@@ -48,21 +49,21 @@ station-standing-requires c κs = search needs
 
 returns-5 : tie.Need-returns-5
 unfolding holdFits
-returns-5 c = by-exchange (c .before .before .before .before .before .before .before .before .before .before .before .before .args .s) (c .before .before .before .before .before .before .before .before .before .before .before .before .args .r) _ station (a-station (c .before .before .before .before .before .before .before .before .before .before .before .before .args .s) (c .before .before .before .before .before .before .before .before .before .before .before .before .pre) (ne-eqb _ _ (c .before .if5 .taken))) (le-leb _ _ (c .before .before .before .before .before .before .before .before .before .before .if1 .left)) (le-leb _ _ (c .before .before .before .before .before .before .before .before .if2 .left)) (ne-eqb _ _ (c .before .before .before .before .before .if3 .left)) (sym (c .before .before .before .before .valid .ensures) ∙ c .before .before .before .if4 .taken) refl (c .station-standing .ensures)
+returns-5 c = by-exchange (c .before .before .before .before .before .before .before .before .before .before .before .before .args .s) (c .before .before .before .before .before .before .before .before .before .before .before .before .args .r) _ station (a-station (c .before .before .before .before .before .before .before .before .before .before .before .before .args .s) (c .before .before .before .before .before .before .before .before .before .before .before .before .pre) (ne-eqb _ _ (c .before .if5 .taken))) (le-leb _ _ (c .before .before .before .before .before .before .before .before .before .before .if1 .left)) (le-leb _ _ (c .before .before .before .before .before .before .before .before .if2 .left)) (ne-eqb _ _ (c .before .before .before .before .before .if3 .left)) (sym (c .before .before .before .before .valid .ensures) ∙ c .before .before .before .if4 .taken) (rw (le-leb (c .before .before .before .before .before .before .before .before .before .before .before .before .args .r .hold) 4294967295 (omega (arith, c .before .before .before .before .before .before .before .before .before .before .before .before .good)))) (c .station-standing .ensures)
 
 unfit-requires-5 : tie.Need-unfit-requires-5
 unfit-requires-5 c κs = search needs
 
 returns-6 : tie.Need-returns-6
 unfolding recordFits recordOf holdFits
-returns-6 c = no-standing _ (c .unfit5 .ensures) _ _ (rw (le-leb _ _ (c .before .before .before .before .before .before .before .before .before .before .before .before .if1 .left), le-leb _ _ (c .before .before .before .before .before .before .before .before .before .before .if2 .left), ne-eqb _ _ (c .before .before .before .before .before .before .before .if3 .left), ← c .before .before .before .before .before .before .valid .ensures, c .before .before .before .before .before .if4 .taken, eq-eqb _ _ (c .before .before .before .if5 .left), ne-eqb _ _ (c .before .if6 .taken)) (and-false (leb (c .before .before .before .before .before .before .before .before .before .before .before .before .before .before .args .r .exchange) 9)))
+returns-6 c = no-standing _ (c .unfit5 .ensures) _ _ (rw (le-leb _ _ (c .before .before .before .before .before .before .before .before .before .before .before .before .if1 .left), le-leb _ _ (c .before .before .before .before .before .before .before .before .before .before .if2 .left), ne-eqb _ _ (c .before .before .before .before .before .before .before .if3 .left), ← c .before .before .before .before .before .before .valid .ensures, c .before .before .before .before .before .if4 .taken, eq-eqb _ _ (c .before .before .before .if5 .left), ne-eqb _ _ (c .before .if6 .taken), le-leb (c .before .before .before .before .before .before .before .before .before .before .before .before .before .before .args .r .hold) 4294967295 (omega (arith, c .before .before .before .before .before .before .before .before .before .before .before .before .before .before .good))) (and-false (leb (c .before .before .before .before .before .before .before .before .before .before .before .before .before .before .args .r .exchange) 9)))
 
 ap-standing-requires : tie.Need-ap-standing-requires
 ap-standing-requires c κs = search needs
 
 returns-7 : tie.Need-returns-7
 unfolding holdFits
-returns-7 c = by-exchange (c .before .before .before .before .before .before .before .before .before .before .before .before .before .before .args .s) (c .before .before .before .before .before .before .before .before .before .before .before .before .before .before .args .r) _ ap (c .before .before .before .if5 .left) (le-leb _ _ (c .before .before .before .before .before .before .before .before .before .before .before .before .if1 .left)) (le-leb _ _ (c .before .before .before .before .before .before .before .before .before .before .if2 .left)) (ne-eqb _ _ (c .before .before .before .before .before .before .before .if3 .left)) (sym (c .before .before .before .before .before .before .valid .ensures) ∙ c .before .before .before .before .before .if4 .taken) (eq-eqb _ _ (c .before .if6 .left)) (c .ap-standing .ensures)
+returns-7 c = by-exchange (c .before .before .before .before .before .before .before .before .before .before .before .before .before .before .args .s) (c .before .before .before .before .before .before .before .before .before .before .before .before .before .before .args .r) _ ap (c .before .before .before .if5 .left) (le-leb _ _ (c .before .before .before .before .before .before .before .before .before .before .before .before .if1 .left)) (le-leb _ _ (c .before .before .before .before .before .before .before .before .before .before .if2 .left)) (ne-eqb _ _ (c .before .before .before .before .before .before .before .if3 .left)) (sym (c .before .before .before .before .before .before .valid .ensures) ∙ c .before .before .before .before .before .if4 .taken) (rw (le-leb (c .before .before .before .before .before .before .before .before .before .before .before .before .before .before .args .r .hold) 4294967295 (omega (arith, c .before .before .before .before .before .before .before .before .before .before .before .before .before .before .good))) (eq-eqb _ _ (c .before .if6 .left))) (c .ap-standing .ensures)
 
 pub row-standing-spec : {M : Type 1} → statement M
 row-standing-spec =

@@ -24,22 +24,22 @@ returns-2 c = no-standing _ (c .unfit .ensures) _ _ (rw (c .before .if2 .taken) 
 
 returns-3 : tie.Need-returns-3
 unfolding exchangeOf
-returns-3 c = (sym (station-timed (c .before .before .before .args .e) (c .before .before .before .args .state) (c .before .before .before .args .left) (ne-eqb _ _ (c .before .if2 .left)) ∙ rw (eq-eqb _ _ (c .if3 .taken))), λ t. rw (c .if3 .taken))
+returns-3 c = (sym (station-timed (c .before .before .before .args .e) (c .before .before .before .args .state) (c .before .before .before .args .left) (ne-eqb _ _ (c .before .if2 .left)) (omega arith) ∙ rw (eq-eqb _ _ (c .if3 .taken))), λ t. rw (c .if3 .taken))
 
 unfit-requires-2 : tie.Need-unfit-requires-2
 unfit-requires-2 c κs = search needs
 
 returns-4 : tie.Need-returns-4
-returns-4 c = no-standing _ (c .unfit2 .ensures) _ _ (station-timed (c .before .before .before .before .before .args .e) (c .before .before .before .before .before .args .state) (c .before .before .before .before .before .args .left) (ne-eqb _ _ (c .before .before .before .if2 .left)) ∙ rw (ne-eqb _ _ (c .before .before .if3 .left), lt-leb _ _ (c .before .if4 .taken)) (and-false (leb 8 (c .before .before .before .before .before .args .e) && leb (c .before .before .before .before .before .args .e) 9)))
+returns-4 c = no-standing _ (c .unfit2 .ensures) _ _ (station-timed (c .before .before .before .before .before .args .e) (c .before .before .before .before .before .args .state) (c .before .before .before .before .before .args .left) (ne-eqb _ _ (c .before .before .before .if2 .left)) (omega arith) ∙ rw (ne-eqb _ _ (c .before .before .if3 .left), lt-leb _ _ (c .before .if4 .taken)) (and-false (leb 8 (c .before .before .before .before .before .args .e) && leb (c .before .before .before .before .before .args .e) 9)))
 
 unfit-requires-3 : tie.Need-unfit-requires-3
 unfit-requires-3 c κs = search needs
 
 returns-5 : tie.Need-returns-5
-returns-5 c = no-standing _ (c .unfit3 .ensures) _ _ (station-timed (c .before .before .before .before .before .before .args .e) (c .before .before .before .before .before .before .args .state) (c .before .before .before .before .before .before .args .left) (ne-eqb _ _ (c .before .before .before .before .if2 .left)) ∙ rw (ne-eqb _ _ (c .before .before .before .if3 .left), lt-leb _ _ (c .before .if5 .taken)))
+returns-5 c = no-standing _ (c .unfit3 .ensures) _ _ (station-timed (c .before .before .before .before .before .before .args .e) (c .before .before .before .before .before .before .args .state) (c .before .before .before .before .before .before .args .left) (ne-eqb _ _ (c .before .before .before .before .if2 .left)) (omega arith) ∙ rw (ne-eqb _ _ (c .before .before .before .if3 .left), lt-leb _ _ (c .before .if5 .taken)))
 
 returns-6 : tie.Need-returns-6
-returns-6 c = (sym (station-timed (c .before .before .before .before .before .args .e) (c .before .before .before .before .before .args .state) (c .before .before .before .before .before .args .left) (ne-eqb _ _ (c .before .before .before .if2 .left)) ∙ rw (ne-eqb _ _ (c .before .before .if3 .left), le-leb _ _ (c .if5 .left), le-leb _ _ (c .before .if4 .left)) (and-true (leb (c .before .before .before .before .before .args .e) 9))), λ t. sym (joins (c .before .before .before .before .before .args .e) (leb-true (c .before .before .before .before .before .args .e) 9 t) ∙ rw (le-ltb (c .before .before .before .before .before .args .e) 2 (omega (arith, c .if5 .left)), ne-eqb (c .before .before .before .before .before .args .e) 4 (omega (arith, c .if5 .left)), ne-eqb (c .before .before .before .before .before .args .e) 7 (omega (arith, c .if5 .left)))))
+returns-6 c = (sym (station-timed (c .before .before .before .before .before .args .e) (c .before .before .before .before .before .args .state) (c .before .before .before .before .before .args .left) (ne-eqb _ _ (c .before .before .before .if2 .left)) (omega arith) ∙ rw (ne-eqb _ _ (c .before .before .if3 .left), le-leb _ _ (c .if5 .left), le-leb _ _ (c .before .if4 .left)) (and-true (leb (c .before .before .before .before .before .args .e) 9))), λ t. sym (joins (c .before .before .before .before .before .args .e) (leb-true (c .before .before .before .before .before .args .e) 9 t) ∙ rw (le-ltb (c .before .before .before .before .before .args .e) 2 (omega (arith, c .if5 .left)), ne-eqb (c .before .before .before .before .before .args .e) 4 (omega (arith, c .if5 .left)), ne-eqb (c .before .before .before .before .before .args .e) 7 (omega (arith, c .if5 .left)))))
 
 pub station-standing-spec : {M : Type 1} → statement M
 station-standing-spec =

@@ -1,0 +1,132 @@
+-- Where there is room for all lines, what is pending is what was pending before and then the lines; and an event asks for 2,752 octets.
+-- Assumes nothing.
+use Prim.Native.Nat.{ℕ, _+_, _*_, _≤_}
+use mathlib.Core.Path.{_≡_, refl, sym, ap, _∙_}
+use mathlib.Core.Bool.{Bool, true, false}
+use mathlib.Core.List.{List, [], _∷_, _++_, append-assoc, append-nil}
+use native.Mathlib.Omega.{arith}
+use lib.Dec.{ltb, eqb}
+use lib.ListN.{length, take, drop, length-append, length-drop}
+use lib.Seq.{length-take-le, take-at}
+use borrow.Author.Tests.{le-leb, ltb-false}
+use Rattle.octets.proofs.Branch.{pick-by}
+use Rattle.peer.specs.Record.{isFree}
+use Rattle.peer.specs.declared.record.Record.{Record}
+use Rattle.table.specs.declared.rules.answer.Answer.{Answer}
+use Rattle.table.specs.declared.rules.event.Event.{Event}
+use Rattle.bench.specs.Line.{lineOf}
+use Rattle.bench.specs.Output.{Output, Line, upTo, putOf, putAll, pending, said, roomFor}
+use Rattle.bench.specs.Play.{numberAfter}
+use Rattle.bench.specs.Run.{playedOf, scratchOf, eventLines, eventOutput}
+use Rattle.bench.specs.Trace.{placeLine, octetsLines, currentLines, placeLines, tableLines, traceLines}
+use Rattle.bench.specs.declared.run.Run.{Run}
+use Rattle.bench.proofs.Lines.{front-length, back-length}
+use Rattle.bench.proofs.TraceLines.{octets-line-length, current-line-length, name-length, times-length}
+
+-- No line is longer than the room that it asks for.
+pub data Fitting : List Line → Type 0 where
+  none : Fitting []
+  next : {v : Line} {vs : List Line} → length (v .text) ≤ v .room → Fitting vs → Fitting (v ∷ vs)
+
+module _ (v : Line) (o : Output) (f : length (v .text) ≤ v .room) (h : o .filled + v .room ≤ length (o .octets)) where
+  put-is : putOf v o ≡ upTo (take (o .filled) (o .octets) ++ v .text ++ drop (o .filled + length (v .text)) (o .octets)) (o .filled + length (v .text))
+  unfolding putOf
+  put-is = rw (le-leb (o .filled + v .room) (length (o .octets)) h)
+
+  front-long : length (take (o .filled) (o .octets) ++ v .text) ≡ o .filled + length (v .text)
+  front-long =
+      let t : length (take (o .filled) (o .octets)) ≡ o .filled = length-take-le (o .filled) (o .octets) (omega arith) in
+      simp length-append (omega arith)
+
+  put-pending : pending (putOf v o) ≡ pending o ++ v .text
+  put-pending =
+      ap pending put-is ∙ take-at (take (o .filled) (o .octets) ++ v .text) (drop (o .filled + length (v .text)) (o .octets)) (o .filled + length (v .text)) front-long
+
+  put-filled : putOf v o .filled ≡ o .filled + length (v .text)
+  put-filled = ap (λ (p : Output). p .filled) put-is
+
+  put-length : length (putOf v o .octets) ≡ length (o .octets)
+  put-length =
+      ap (λ (p : Output). length (p .octets)) put-is ∙
+      (length-append (take (o .filled) (o .octets) ++ v .text) (drop (o .filled + length (v .text)) (o .octets)) ∙
+      omega (arith, front-long, length-drop (o .filled + length (v .text)) (o .octets)))
+
+pub pending-all : (vs : List Line) (o : Output) → Fitting vs → o .filled + roomFor vs ≤ length (o .octets) → pending (putAll vs o) ≡ pending o ++ said vs
+unfolding putAll said roomFor
+pending-all [] o none h = sym (append-nil (pending o))
+pending-all (v ∷ vs) o (next f g) h =
+    let a : o .filled + v .room ≤ length (o .octets) = omega arith in
+    let b : putOf v o .filled + roomFor vs ≤ length (putOf v o .octets) = omega (arith, put-filled v o f a, put-length v o f a) in
+    pending-all vs (putOf v o) g b ∙ (ap (λ (l : List ℕ). l ++ said vs) (put-pending v o f a) ∙ append-assoc (pending o) (v .text) (said vs))
+
+-- the same of lists of lines, one behind the other
+fitting-append : {vs ws : List Line} → Fitting vs → Fitting ws → Fitting (vs ++ ws)
+fitting-append none g = g
+fitting-append (next f h) g = next f (fitting-append h g)
+
+room-append : (vs ws : List Line) → roomFor (vs ++ ws) ≡ roomFor vs + roomFor ws
+unfolding roomFor
+room-append [] ws = omega arith
+room-append (v ∷ vs) ws = let e = room-append vs ws in omega arith
+
+-- Lines that fit, and ask for n octets at most.
+pub record Within (n : ℕ) (vs : List Line) : Type 0 where
+  pub fits : Fitting vs
+  pub asks : roomFor vs ≤ n
+
+no-line : {n : ℕ} → Within n []
+unfolding roomFor
+no-line = record { fits = none; asks = omega arith }
+
+one-line : {n : ℕ} (v : Line) → length (v .text) ≤ v .room → v .room ≤ n → Within n (v ∷ [])
+unfolding roomFor
+one-line v f h = record { fits = next f none; asks = omega arith }
+
+both : {m n : ℕ} {vs ws : List Line} → Within m vs → Within n ws → Within (m + n) (vs ++ ws)
+both {m} {n} {vs} {ws} p q = record { fits = fitting-append (p .fits) (q .fits); asks = omega (arith, room-append vs ws, p .asks, q .asks) }
+
+octets-within : (n : ℕ) (s : List ℕ) → length s ≡ 256 → Within 576 (octetsLines n s)
+unfolding octetsLines
+octets-within n s h =
+    pick-by (Within 576) (eqb n 0) (λ e. no-line)
+    (λ e. pick-by (Within 576) (ltb 256 n) (λ f. no-line)
+    (λ f. let t : length (take n s) ≡ n = length-take-le n s (omega (arith, ltb-false 256 n f)) in
+    one-line _ (octets-line-length (take n s)) (omega (arith, ltb-false 256 n f))))
+
+current-within : (a : Answer) → Within 64 (currentLines a)
+unfolding currentLines
+current-within a = pick-by (Within 64) (eqb (a .notice) 7) (λ e. one-line _ (current-line-length (a .current)) (omega arith)) (λ e. no-line)
+
+place-length : (i : ℕ) (p : Record) → length (placeLine i p) ≤ 64
+unfolding placeLine
+place-length i p = simp length-append (omega (arith, name-length i p, times-length p))
+
+table-within : (i : ℕ) (t : List Record) → Within (64 * length t) (tableLines i t)
+unfolding tableLines placeLines
+table-within i [] = no-line
+table-within i (p ∷ t) =
+    let w = both (pick-by (Within 64) (isFree p) (λ e. no-line) (λ e. one-line _ (place-length i p) (omega arith))) (table-within (i + 1) t) in
+    record { fits = w .fits; asks = omega (arith, w .asks) }
+
+line-length : (n : ℕ) (a : Answer) → length (lineOf n a) ≤ 64
+unfolding lineOf
+line-length n a = simp length-append (omega (arith, front-length n a, back-length a))
+
+trace-within : (a : Answer) (s : List ℕ) (t : List Record) → length s ≡ 256 → length t ≡ 32 → Within 2688 (traceLines a s t)
+unfolding traceLines
+trace-within a s t h g =
+    let w = both (both (octets-within (a .written) s h) (current-within a)) (table-within 0 t) in
+    record { fits = w .fits; asks = omega (arith, w .asks) }
+
+-- An event of a table of 32 records.
+module _ (r : Run) (e : Event) (xs : List ℕ) (h : length (scratchOf r e xs) ≡ 256) (g : length (playedOf r e xs .table) ≡ 32) where
+  pub event-within : Within 2752 (eventLines r e xs)
+  unfolding eventLines
+  event-within =
+      both {m = 64} (one-line _ (line-length (numberAfter (r .number)) (playedOf r e xs .answer)) (omega arith))
+      (pick-by (Within 2688) (r .trace) (λ b. trace-within (playedOf r e xs .answer) (scratchOf r e xs) (playedOf r e xs .table) h g) (λ b. no-line))
+
+  -- What an event adds to the octets to be written out: its lines, whole.
+  pub event-pending : (l : List ℕ) → r .out + 2752 ≤ length l → pending (eventOutput r e xs l) ≡ take (r .out) l ++ said (eventLines r e xs)
+  unfolding eventOutput
+  event-pending l k = let w = event-within in pending-all (eventLines r e xs) (upTo l (r .out)) (w .fits) (omega (arith, w .asks))

@@ -1,0 +1,121 @@
+-- Where a run stands, and what a record makes of it and of the output buffer.
+-- Assumes nothing.
+use Prim.Native.Nat.{ℕ, _+_, _-_}
+use mathlib.Core.Bool.{Bool, true, false, _&&_}
+use mathlib.Core.List.{List, [], _∷_, _++_}
+use lib.Dec.{leb}
+use lib.ListN.{length, take, drop, replicate}
+use Rattle.octets.specs.Pick.{pick}
+use Rattle.peer.specs.Record.{freeOf}
+use Rattle.peer.specs.declared.settings.Settings.{Settings}
+use Rattle.table.specs.Step.{stepOf, stepIn}
+use Rattle.table.specs.declared.rules.answer.Stepped.{Stepped}
+use Rattle.table.specs.declared.rules.event.Event.{Event}
+use Rattle.bench.specs.Line.{lineOf, stopLine}
+use Rattle.bench.specs.Output.{Output, Line, short, upTo, putOf, putAll}
+use Rattle.bench.specs.Play.{zeros, numberAfter}
+use Rattle.bench.specs.Trace.{traceLines}
+use Rattle.bench.specs.declared.run.Run.{Run}
+
+-- "The table starts empty": 32 free records; no event yet, both buffers empty.
+unfoldable pub startOf : Bool → Run
+startOf trace =
+    record {
+      settings = record { own = 0; authentication = 0; association = 0; role = 0; rsna = 0 };
+      table = replicate 32 freeOf;
+      number = 0;
+      at = 0;
+      have = 0;
+      out = 0;
+      first = true;
+      over = false;
+      done = false;
+      trace = trace;
+    }
+
+-- Where one stands n octets behind `at`, of `have`; never past the end.
+unfoldable pub behindOf : ℕ → ℕ → ℕ → ℕ
+behindOf at n have = pick (leb (at + n) have) (at + n) have
+
+-- The settings record was taken: its 17 octets are passed, the rest stays.
+unfoldable pub begunOf : Run → Settings → Run
+begunOf r s =
+    record {
+      settings = s;
+      table = r .table;
+      number = r .number;
+      at = behindOf (r .at) 17 (r .have);
+      have = r .have;
+      out = r .out;
+      first = false;
+      over = r .over;
+      done = r .done;
+      trace = r .trace;
+    }
+
+-- An event, played: the step of the table, lent 256 octets. "the output scratch is 256 zero bytes for each event"
+abbrev pub playedOf : Run → Event → List ℕ → Stepped
+playedOf r e frame = stepOf (r .settings) (r .table) e frame 256
+
+abbrev pub scratchOf : Run → Event → List ℕ → List ℕ
+scratchOf r e frame = stepIn (r .settings) (r .table) e frame zeros
+
+-- The lines of an event: "one line an event", numbered from 1; behind it what a trace shows of the answer, the scratch and the new table.
+unfoldable pub eventLines : Run → Event → List ℕ → List Line
+eventLines r e frame =
+    short (lineOf (numberAfter (r .number)) (playedOf r e frame .answer)) ∷
+    pick (r .trace) (traceLines (playedOf r e frame .answer) (scratchOf r e frame) (playedOf r e frame .table)) []
+
+-- The output buffer l after it: its lines behind those that are there.
+unfoldable pub eventOutput : Run → Event → List ℕ → List ℕ → Output
+eventOutput r e frame l = putAll (eventLines r e frame) (upTo l (r .out))
+
+-- The run after it: the new table, the next number, `size` octets of input passed, the output as far as it is filled.
+unfoldable pub eventOf : Run → Event → List ℕ → ℕ → List ℕ → Run
+eventOf r e frame size l =
+    record {
+      settings = r .settings;
+      table = playedOf r e frame .table;
+      number = numberAfter (r .number);
+      at = behindOf (r .at) size (r .have);
+      have = r .have;
+      out = eventOutput r e frame l .filled;
+      first = r .first;
+      over = r .over;
+      done = r .done;
+      trace = r .trace;
+    }
+
+-- The lines were handed on to be written, and the run goes on or is done; nothing else changes.
+unfoldable pub flushedOf : Run → Bool → Run
+flushedOf r done =
+    record {
+      settings = r .settings;
+      table = r .table;
+      number = r .number;
+      at = r .at;
+      have = r .have;
+      out = 0;
+      first = r .first;
+      over = r .over;
+      done = done;
+      trace = r .trace;
+    }
+
+-- "prints `stop` and ends": the buffer l after it
+abbrev pub stoppedIn : Run → List ℕ → List ℕ
+stoppedIn r l = putOf (short stopLine) (upTo l (r .out)) .octets
+
+-- The octets of the input buffer that are still to be taken, at the front of it; how many. Where `at` and `have` are no places of the buffer it
+-- stays, and there are none.
+abbrev pub within : ℕ → ℕ → ℕ → Bool
+within at have n = leb at have && leb have n
+
+abbrev pub aheadOf : ℕ → ℕ → List ℕ → List ℕ
+aheadOf at have xs = take (have - at) (drop at xs)
+
+unfoldable pub leftOf : ℕ → ℕ → ℕ → ℕ
+leftOf at have n = pick (within at have n) (have - at) 0
+
+unfoldable pub shiftedOf : ℕ → ℕ → List ℕ → List ℕ
+shiftedOf at have xs = pick (within at have (length xs)) (aheadOf at have xs ++ drop (have - at) xs) xs

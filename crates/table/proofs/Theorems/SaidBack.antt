@@ -1,0 +1,224 @@
+-- Demand 2: "a frame written here reads back to the fields it was written from", of each step. Whatever the table and the buffer, where a frame
+-- or a primitive writes, the octets at the buffer's front read as a frame to the peer that the event names, heard there as document 01 says
+-- (`step-said`). Of a table or settings that are not well formed nothing is written.
+-- Assumes nothing.
+use Prim.Native.Nat.{ℕ, _-_, _<_, _^_}
+use mathlib.Core.Path.{_≡_, refl, sym, subst, _∙_}
+use mathlib.Core.Bool.{Bool, true, false, not, _||_}
+use mathlib.Core.List.{List, [], _∷_}
+use native.Mathlib.Omega.{arith}
+use lib.Dec.{eqb, ltb}
+use lib.ListN.{length, getD, take}
+use borrow.Author.Tests.{eqb-true, ltb-true, not-false, not-true}
+use Rattle.octets.proofs.Branch.{by-bool, pick-both, pick-by}
+use Rattle.octets.specs.Address.{validOf, groupOf}
+use Rattle.octets.specs.Class.{classless, classOf, numberOf}
+use Rattle.octets.specs.Field.{allOctets, field}
+use Rattle.octets.specs.Frame.{longest}
+use Rattle.octets.specs.Heard.{heardOf}
+use Rattle.octets.specs.Shape.{shapeOf}
+use Rattle.octets.specs.declared.heard.Heard.{Heard}
+use Rattle.octets.specs.declared.shape.Shape.{Shape}
+use Rattle.octets.specs.declared.shape.Shape.the-variants.{Misfit, Classless, Bare, Full}
+use Rattle.peer.proofs.AskSaid.{ask-said}
+use Rattle.peer.proofs.Fits.{Fits, both, fits-of, or-left, wrong}
+use Rattle.peer.proofs.HearSaid.{full-said, hear-said}
+use Rattle.peer.proofs.Keeps.{found-fits, fresh-fits}
+use Rattle.peer.proofs.Sent.{valid-below}
+use Rattle.peer.specs.Ask.{askOf}
+use Rattle.peer.specs.Authentication.{fullOf}
+use Rattle.peer.specs.Fit.{placeFits}
+use Rattle.peer.specs.Hear.{hearOf}
+use Rattle.peer.specs.Record.{freeOf, freshOf, isFree, isJoined, underWay}
+use Rattle.peer.specs.Refuse.{codeAllowed}
+use Rattle.peer.specs.Said.{ReadsTo, Speaks, repliedSays}
+use Rattle.peer.specs.Settings.{ap}
+use Rattle.peer.specs.declared.record.Record.{Record}
+use Rattle.peer.specs.declared.refuse.Others.{Others}
+use Rattle.peer.specs.declared.reply.Reply.{Reply}
+use Rattle.peer.specs.declared.reply.Reply.the-variants.{Silent, Send}
+use Rattle.peer.specs.declared.settings.Settings.{Settings}
+use Rattle.peer.specs.declared.turn.Turn.{Turn}
+use Rattle.table.specs.Answer.{refusedOf, settledOf}
+use Rattle.table.specs.Ask.{askedAt, askedOf, mayAsk}
+use Rattle.table.specs.Fit.{wellFormed}
+use Rattle.table.specs.Meant.{Spoken, saysIn, spokenTo}
+use Rattle.table.specs.Others.{associatedOf, othersOf}
+use Rattle.table.specs.Places.{addressesOf, allOf, allTails, findOf, onFound}
+use Rattle.table.specs.Read.{forUs, readAs, readBare, readFrom, readFull, readOf}
+use Rattle.table.specs.Receive.{heardAt, heardFrom, receivedOf}
+use Rattle.table.specs.Refusals.{firstOf, unless}
+use Rattle.table.specs.Seat.{aidOf, newcomerOf, peerOf, seatedOf, startsOf, strangerOf, turnIn}
+use Rattle.table.specs.Step.{stepIn, stepOf}
+use Rattle.table.specs.Written.{replyBytes}
+use Rattle.table.specs.declared.rules.answer.Met.{Met}
+use Rattle.table.specs.declared.rules.event.Event.{Event}
+use Rattle.table.specs.declared.rules.event.Event.the-variants as event
+use Rattle.table.specs.declared.rules.seat.Found.{Found}
+use Rattle.table.specs.declared.rules.seat.Found.the-variants.{At, Nothing}
+use Rattle.table.proofs.Passes.Lists.{all-get, first-at, get-map}
+use Rattle.table.proofs.Theorems.Well.{Well, well-of}
+use Rattle.table.proofs.Theorems.WrittenCount.{written-count}
+
+-- a frame that is read for its peer has a class
+full-classed : (xs : List ℕ) → shapeOf xs ≡ Full → classless (classOf xs) ≡ false
+unfolding shapeOf
+full-classed xs e = by-bool (ltb (length xs) 10 || ltb 4096 (length xs))
+    (λ m. let n : Misfit ≡ Full = rw m at e in let z : _≡_ {A = ℕ} 0 1 = cc in absurd (omega arith))
+    (λ m. by-bool (classless (classOf xs))
+    (λ k. let n : Classless ≡ Full = rw (m, k) at e in let z : _≡_ {A = ℕ} 0 1 = cc in absurd (omega arith))
+    (λ k. k))
+
+-- an AID of the table has 14 bits
+aid-small : (at : Found) → aidOf at < 2 ^ 14
+aid-small Nothing = omega arith
+aid-small (At i) = pick-by (λ (a : ℕ). a < 2 ^ 14) (ltb i 32) (λ e. let l = ltb-true i 32 e in omega arith) (λ e. omega arith)
+
+module _ (s : Settings) where
+  -- what an event is met with, as a reply
+  abbrev Said : ℕ → Heard → Met → Type 0
+  Said a w m = Speaks s a w (m .reply)
+
+  -- the record in State 3 or 4 has an address
+  joined-valid : (p : Record) → placeFits s p ≡ true → isJoined p ≡ true → validOf (p .address) ≡ true
+  unfolding placeFits isFree isJoined
+  joined-valid p h j = by-bool (isFree p)
+      (λ f.
+      let z = eqb-true (p .state) 0 (both (eqb (p .state) 0) _ (both (eqb (p .address) 0) _ f .1) .0) in
+      wrong (rw z at j))
+      (λ f. fits-of s p (rw f at h) .valid)
+
+  associated-below : (t : List Record) → allOf (placeFits s) t ≡ true → associatedOf t < 2 ^ 48
+  unfolding associatedOf allTails
+  associated-below [] h = omega arith
+  associated-below (p ∷ t) h =
+      let k = both (placeFits s p) (allOf (placeFits s) t) h in
+      pick-by (λ (a : ℕ). a < 2 ^ 48) (isJoined p)
+      (λ j. valid-below (p .address) (joined-valid p (k .0) j))
+      (λ j. associated-below t (k .1))
+
+  others-below : (t : List Record) → allOf (placeFits s) t ≡ true → othersOf s t .associated < 2 ^ 48
+  unfolding othersOf
+  others-below t h = pick-both (λ (o : Others). o .associated < 2 ^ 48) (eqb (s .role) ap) (omega arith) (associated-below t h)
+
+  module _ (t : List Record) (w : Well s t) where
+    free-fits : placeFits s freeOf ≡ true
+    unfolding placeFits isFree
+    free-fits = refl
+
+    -- the record of a peer, fresh where it has none, fits and is that peer's
+    peer-fits : (a : ℕ) → not (eqb a (s .own)) ≡ true → validOf a ≡ true → (at : Found) → findOf (addressesOf t) a ≡ at → Fits s (peerOf t at a) × (peerOf t at a .address ≡ a)
+    unfolding freshOf
+    peer-fits a own v Nothing e = (fresh-fits s a own v, refl)
+    peer-fits a own v (At i) e =
+        let found = first-at (λ (b : ℕ). eqb b a) 0 (addressesOf t) 0 i e in
+        let at-i : i - 0 ≡ i = omega arith in
+        let b : eqb (getD (addressesOf t) i 0) a ≡ true = rw at-i at (found .1) in
+        let z : getD t i freeOf .address ≡ a = sym (get-map (λ (p : Record). p .address) t i freeOf) ∙ eqb-true _ a b in
+        (found-fits s (getD t i freeOf) (all-get (placeFits s) t i freeOf (w .places) free-fits) (rw z v), z)
+
+    -- ---- frames
+
+    module _ (xs : List ℕ) (o : allOctets xs ≡ true) (k : classless (classOf xs) ≡ false) (group : Bool) where
+      turned : (p : Record) → Fits s p → Speaks s (p .address) (repliedSays s (p .state) (numberOf (classOf xs)) (heardOf xs)) (hearOf s p (classOf xs) group (heardOf xs) .reply)
+      turned p f = hear-said s (w .settings) p (f .valid) (f .low) xs o k group
+
+      stranger-said : (a : ℕ) (free : Found) → Fits s (freshOf a) → Said a (repliedSays s 1 (numberOf (classOf xs)) (heardOf xs)) (newcomerOf t free (hearOf s (freshOf a) (classOf xs) group (heardOf xs)) (fullOf s (freshOf a)))
+      unfolding newcomerOf strangerOf seatedOf startsOf freshOf
+      stranger-said a free f =
+          pick-by (Said a _) (not (eqb (underWay (hearOf s (freshOf a) (classOf xs) group (heardOf xs) .peer .exchange)) 0))
+          (λ b. placed free (not-true _ b))
+          (λ b. turned (freshOf a) f)
+        where
+          placed : (free : Found) → eqb (underWay (hearOf s (freshOf a) (classOf xs) group (heardOf xs) .peer .exchange)) 0 ≡ false → Said a (repliedSays s 1 (numberOf (classOf xs)) (heardOf xs)) (onFound free (strangerOf t (fullOf s (freshOf a))) (λ i. seatedOf t i (hearOf s (freshOf a) (classOf xs) group (heardOf xs))))
+          placed Nothing b = full-said s (w .settings) (freshOf a) (f .valid) (f .low) refl refl xs k group b
+          placed (At i) b = turned (freshOf a) f
+
+      from-said : (a : ℕ) → not (eqb a (s .own)) ≡ true → validOf a ≡ true → (at free : Found) → findOf (addressesOf t) a ≡ at → Said a (repliedSays s (peerOf t at a .state) (numberOf (classOf xs)) (heardOf xs)) (turnIn t at free (hearOf s (peerOf t at a) (classOf xs) group (heardOf xs)) (fullOf s (peerOf t at a)))
+      unfolding seatedOf freshOf
+      from-said a own v Nothing free e = stranger-said a free (fresh-fits s a own v)
+      from-said a own v (At i) free e =
+          let f = peer-fits a own v (At i) e in
+          rw (f .1) at (turned (getD t i freeOf) (f .0))
+
+    read-said : (xs : List ℕ) → allOctets xs ≡ true → (shape : Shape) → shapeOf xs ≡ shape → Said (field 6 10 xs) (saysIn s t event.Frame xs) (heardAt s t (addressesOf t) (readAs shape (s .own) xs))
+    unfolding refusedOf settledOf readBare readFull readFrom heardFrom
+    read-said xs o Misfit e = tt
+    read-said xs o Classless e = tt
+    read-said xs o Bare e = by-bool (forUs (s .own) (field 6 4 xs)) (λ u. rw u tt) (λ u. rw u tt)
+    read-said xs o Full e = by-bool (not (forUs (s .own) (field 6 4 xs)))
+        (λ u. rw u tt)
+        (λ u. by-bool (eqb (field 6 10 xs) (s .own) || not (validOf (field 6 10 xs)))
+        (λ g. rw (u, g) tt)
+        (λ g.
+        let n = or-left (eqb (field 6 10 xs) (s .own)) _ g in
+        rw (u, g) (from-said xs o (full-classed xs e) (groupOf (field 6 4 xs)) (field 6 10 xs) (rw (n .0)) (not-false _ (n .1))
+        (findOf (addressesOf t) (field 6 10 xs)) (findOf (addressesOf t) 0) refl)))
+
+    -- ---- primitives
+
+    none-first : (k : ℕ) (b : Bool) (rest : List (ℕ × Bool)) → eqb k 0 ≡ false → eqb (firstOf ((k, b) ∷ rest)) 0 ≡ true → b ≡ false
+    unfolding firstOf
+    none-first k true rest z h = wrong (sym z ∙ h)
+    none-first k false rest z h = refl
+
+    unless-said : (a : ℕ) (h : Heard) (n : ℕ) (m : Met) → (eqb n 0 ≡ true → Said a h m) → Said a h (unless n t m)
+    unfolding unless refusedOf settledOf
+    unless-said a h n m k = pick-by (Said a h) (eqb n 0) k (λ e. tt)
+
+    -- a turn that no want of a place changes
+    turn-said : (a : ℕ) (h : Heard) (at free : Found) (turn : Turn) → Speaks s a h (turn .reply) → Said a h (turnIn t at free turn turn)
+    unfolding newcomerOf strangerOf seatedOf
+    turn-said a h Nothing Nothing turn k = pick-both (Said a h) (startsOf turn) k k
+    turn-said a h Nothing (At i) turn k = pick-both (Said a h) (startsOf turn) k k
+    turn-said a h (At i) free turn k = k
+
+    asked-said : (q a c : ℕ) (xs : List ℕ) → c < 2 ^ 16 → Said a (saysIn s t (event.Ask q a c) xs) (askedAt s t (addressesOf t) q a c)
+    unfolding askedAt mayAsk
+    asked-said q a c xs short =
+        let at = findOf (addressesOf t) a in
+        let turn = askOf s (aidOf at) (peerOf t at a) (othersOf s t) q c in
+        let h = saysIn s t (event.Ask q a c) xs in
+        unless-said a h _ _ (λ e.
+        let may = both (codeAllowed q c) _ (not-false _ (none-first 3 _ _ refl e)) in
+        let peer = both (not (eqb a (s .own))) _ (may .1) in
+        let f = peer-fits a (peer .0) (peer .1) at refl in
+        turn-said a h at (findOf (addressesOf t) 0) turn
+        (subst (λ (b : ℕ). Speaks s b h (turn .reply)) (f .1)
+        (ask-said s (w .settings) (peerOf t at a) (f .0 .valid) (aidOf at) (aid-small at) (othersOf s t) (others-below t (w .places)) q c short)))
+
+-- ---- each event
+
+module _ (s : Settings) (t : List Record) (h : length t ≡ 32) where
+  frame-said : (xs : List ℕ) (n : ℕ) → allOctets xs ≡ true → Speaks s (field 6 10 xs) (saysIn s t event.Frame xs) (receivedOf s t xs n .reply)
+  unfolding receivedOf refusedOf settledOf readOf
+  frame-said xs n o =
+      pick-both (Said s (field 6 10 xs) (saysIn s t event.Frame xs)) (ltb n longest) tt
+      (pick-by (Said s (field 6 10 xs) (saysIn s t event.Frame xs)) (not (wellFormed s t)) (λ e. tt)
+      (λ e. read-said s t (well-of s t (not-false _ e) h) xs o (shapeOf xs) refl))
+
+  primitive-said : (q a c : ℕ) (xs : List ℕ) (n : ℕ) → c < 2 ^ 16 → Speaks s a (saysIn s t (event.Ask q a c) xs) (askedOf s t q a c n .reply)
+  unfolding askedOf unless firstOf refusedOf settledOf
+  primitive-said q a c xs n short = by-bool (ltb n longest)
+      (λ e. rw e tt)
+      (λ e. by-bool (not (wellFormed s t))
+      (λ b. rw (e, b) tt)
+      (λ b. rw (e, b) (asked-said s t (well-of s t (not-false _ b) h) q a c xs short)))
+
+  -- what is replied is what is written
+  spoken : (a : ℕ) (v : Heard) (r : Reply) → Speaks s a v r → 0 < length (replyBytes r) → ReadsTo s a v (replyBytes r)
+  spoken a v Silent k l = absurd (omega arith)
+  spoken a v (Send f) k l = k .1
+
+  pub step-said :
+      (e : Event) (xs l : List ℕ) → Spoken e xs → 0 < stepOf s t e xs (length l) .answer .written
+      → ReadsTo s (spokenTo e xs) (saysIn s t e xs) (take (stepOf s t e xs (length l) .answer .written) (stepIn s t e xs l))
+  step-said event.Frame xs l o some =
+      let wr = written-count s t event.Frame xs l h in
+      subst (λ (ys : List ℕ). ReadsTo s (field 6 10 xs) (saysIn s t event.Frame xs) ys) (sym (wr .front))
+      (spoken (field 6 10 xs) (saysIn s t event.Frame xs) (receivedOf s t xs (length l) .reply) (frame-said xs (length l) o) (rw (wr .count) at some))
+  step-said (event.Ask q a c) xs l short some =
+      let wr = written-count s t (event.Ask q a c) xs l h in
+      subst (λ (ys : List ℕ). ReadsTo s a (saysIn s t (event.Ask q a c) xs) ys) (sym (wr .front))
+      (spoken a (saysIn s t (event.Ask q a c) xs) (askedOf s t q a c (length l) .reply) (primitive-said q a c xs (length l) short) (rw (wr .count) at some))
+  step-said (event.Clock d) xs l none some = absurd none

@@ -1,0 +1,127 @@
+-- What `step-said` says of two steps, computed; and that the AID, the state and the associated AP of which it speaks are those of the records'
+-- places (`aid-place`, `peer-place`, `associated-place`).
+-- Assumes nothing.
+use Prim.Native.Nat.{ℕ, zero, suc, _+_, _<_, _≤_}
+use mathlib.Core.Path.{_≡_, refl}
+use mathlib.Core.Bool.{true, false}
+use mathlib.Core.List.{List, [], _∷_}
+use native.Mathlib.Omega.{arith}
+use native.Mathlib.Nat.{le-of-suc-le-suc, not-suc-le-zero}
+use lib.Dec.{eqb}
+use lib.ListN.{length, getD, replicate}
+use borrow.Author.Tests.{lt-ltb}
+use Rattle.octets.proofs.Branch.{by-bool}
+use Rattle.octets.specs.Address.{validOf, groupOf}
+use Rattle.octets.specs.Class.{classOf}
+use Rattle.octets.specs.Field.{octets}
+use Rattle.octets.specs.Frame.{aidField, bodyOf, bytesOf, capabilityOf, headOf, lengthOf, writtenOf}
+use Rattle.octets.specs.Heard.{heardOf}
+use Rattle.octets.specs.Shape.{isBare, leastOf, shapeOf}
+use Rattle.octets.specs.declared.element.Comeback.the-variants.{Absent}
+use Rattle.octets.specs.declared.heard.Heard.the-variants as heard
+use Rattle.octets.specs.declared.heard.Kind.the-variants.{Association}
+use Rattle.peer.specs.Ask.{askOf, awaitedOf, respondOf}
+use Rattle.peer.specs.Filter.{barredOf}
+use Rattle.peer.specs.Fit.{askedFits, holdFits, placeFits, recordFits, stands}
+use Rattle.peer.specs.Hear.{hearOf}
+use Rattle.peer.specs.Moves.{dsOf}
+use Rattle.peer.specs.Record.{associates, changedOf, freeOf, freshOf, isFree, isJoined}
+use Rattle.peer.specs.Refuse.{codeAllowed, conflictOf, heldOf, joinedElsewhere, mismatchOf, roleAllowed}
+use Rattle.peer.specs.Reply.{apAddress, deauthenticationTo, responseTo, sendOf}
+use Rattle.peer.specs.Said.{ReadsTo}
+use Rattle.peer.specs.Settings.{settingsFit, station, timeFits}
+use Rattle.peer.specs.Turn.{begunOf, repliedOf, turnOf}
+use Rattle.peer.specs.declared.record.Exchange.the-variants.{Asked, None}
+use Rattle.peer.specs.declared.record.Record.{Record}
+use Rattle.peer.specs.declared.settings.Settings.{Settings}
+use Rattle.table.specs.Answer.{refusedOf, settledOf, steppedOf}
+use Rattle.table.specs.Ask.{askedAt, askedOf, mayAsk, noPlace}
+use Rattle.table.specs.Fit.{aloneIn, crowdOf, sparseOf, wellFormed}
+use Rattle.table.specs.Others.{associatedOf, othersOf}
+use Rattle.table.specs.Places.{addressesOf, allTails, countOf, findOf, firstFrom}
+use Rattle.table.specs.Read.{forUs, readFrom, readFull, readOf}
+use Rattle.table.specs.Receive.{heardFrom, receivedOf}
+use Rattle.table.specs.Refusals.{firstOf, unless}
+use Rattle.table.specs.Seat.{aidOf, newcomerOf, peerOf, seatedOf, startsOf, strangerOf}
+use Rattle.table.specs.declared.rules.event.Event.the-variants as event
+use Rattle.table.specs.declared.rules.seat.Found.the-variants.{At}
+use Rattle.table.proofs.Order.OwnRecord.{find-at, wf-distinct}
+use Rattle.table.proofs.Theorems.SaidBack.{step-said}
+use Rattle.table.proofs.Theorems.Well.{well-of}
+
+-- ---- two steps of an AP, own address 0a, with 0c associated and 0e at place 1, whose association is asked
+
+abbrev home : Settings
+home = record { role = 1; own = 0x0a; rsna = 0; authentication = 10; association = 10 }
+
+abbrev two : List Record
+two =
+    (record { address = 0x0c; state = 4; exchange = None; left = 0; hold = 0 })
+    ∷ (record { address = 0x0e; state = 2; exchange = Asked Association; left = 0; hold = 0 })
+    ∷ replicate 30 freeOf
+
+-- primitive 7, status 0
+accepted :
+    ReadsTo home 0x0e (heard.Response Association 0 2 Absent)
+    (0x10 ∷ 0 ∷ 0 ∷ 0 ∷ 0x0e ∷ 0 ∷ 0 ∷ 0 ∷ 0 ∷ 0 ∷ 0x0a ∷ 0 ∷ 0 ∷ 0 ∷ 0 ∷ 0 ∷ 0x0a ∷ 0 ∷ 0 ∷ 0 ∷ 0 ∷ 0 ∷ 0 ∷ 0 ∷
+    0x01 ∷ 0 ∷ 0 ∷ 0 ∷ 2 ∷ 0xc0 ∷ [])
+unfolding validOf octets capabilityOf aidField headOf bodyOf bytesOf writtenOf lengthOf settingsFit timeFits isJoined associates freshOf isFree
+    changedOf stands askedFits holdFits recordFits placeFits dsOf apAddress sendOf responseTo turnOf begunOf codeAllowed roleAllowed conflictOf
+    joinedElsewhere mismatchOf heldOf awaitedOf respondOf askOf firstFrom allTails countOf aloneIn crowdOf sparseOf wellFormed associatedOf
+    othersOf settledOf refusedOf steppedOf seatedOf startsOf newcomerOf firstOf unless mayAsk noPlace askedAt askedOf
+accepted = step-said home two refl (event.Ask 7 0x0e 0) [] (replicate 34 0) (omega arith) (omega arith)
+
+-- a data frame of a stranger, 06
+kept-out :
+    ReadsTo home 0x06 (heard.Deauthentication 7)
+    (0xc0 ∷ 0 ∷ 0 ∷ 0 ∷ 0x06 ∷ 0 ∷ 0 ∷ 0 ∷ 0 ∷ 0 ∷ 0x0a ∷ 0 ∷ 0 ∷ 0 ∷ 0 ∷ 0 ∷ 0x0a ∷ 0 ∷ 0 ∷ 0 ∷ 0 ∷ 0 ∷ 0 ∷ 0 ∷ 7 ∷ 0 ∷ [])
+unfolding validOf groupOf octets classOf heardOf isBare leastOf shapeOf headOf bodyOf bytesOf writtenOf lengthOf settingsFit timeFits isJoined
+    associates freshOf isFree changedOf stands askedFits holdFits recordFits placeFits dsOf apAddress sendOf deauthenticationTo turnOf repliedOf
+    barredOf hearOf firstFrom allTails countOf aloneIn crowdOf sparseOf wellFormed settledOf refusedOf steppedOf seatedOf startsOf newcomerOf
+    strangerOf forUs readFrom readFull readOf heardFrom receivedOf
+kept-out =
+    step-said home two refl event.Frame
+    (0x08 ∷ 1 ∷ 0 ∷ 0 ∷ 0x0a ∷ 0 ∷ 0 ∷ 0 ∷ 0 ∷ 0 ∷ 0x06 ∷ 0 ∷ 0 ∷ 0 ∷ 0 ∷ 0 ∷ 0x0c ∷ 0 ∷ 0 ∷ 0 ∷ 0 ∷ 0 ∷ 0 ∷ 0 ∷ [])
+    (replicate 34 0) refl (omega arith)
+
+-- ---- the places
+
+module _ (s : Settings) (t : List Record) (h : wellFormed s t ≡ true) (l : length t ≡ 32) (i : ℕ) (below : i < 32) (some : eqb (getD t i freeOf .address) 0 ≡ false) where
+  found-place : findOf (addressesOf t) (getD t i freeOf .address) ≡ At i
+  found-place = find-at t i (wf-distinct s t h) (rw l below) some
+
+  -- "An AP gives AID = place + 1"
+  pub aid-place : aidOf (findOf (addressesOf t) (getD t i freeOf .address)) ≡ i + 1
+  aid-place = rw (found-place, lt-ltb i 32 below)
+
+  pub peer-place : peerOf t (findOf (addressesOf t) (getD t i freeOf .address)) (getD t i freeOf .address) ≡ getD t i freeOf
+  peer-place = rw found-place
+
+-- a record that passes a test is counted
+counted : (t : List Record) (i : ℕ) → i < length t → isJoined (getD t i freeOf) ≡ true → 1 ≤ countOf isJoined t
+unfolding countOf
+counted [] i b j = absurd (not-suc-le-zero b)
+counted (p ∷ t) zero b j = rw j (omega arith)
+counted (p ∷ t) (suc i) b j = let n = counted t i (le-of-suc-le-suc b) j in omega arith
+
+-- "the associated AP's address": of the record in State 3 or 4
+only : (t : List Record) (i : ℕ) → i < length t → countOf isJoined t ≤ 1 → isJoined (getD t i freeOf) ≡ true → associatedOf t ≡ getD t i freeOf .address
+unfolding associatedOf countOf
+only [] i b c j = absurd (not-suc-le-zero b)
+only (p ∷ t) zero b c j = rw j
+only (p ∷ t) (suc i) b c j = by-bool (isJoined p)
+    (λ e.
+    let n = counted t i (le-of-suc-le-suc b) j in
+    let m : 1 + countOf isJoined t ≤ 1 = rw e at c in
+    absurd (omega arith))
+    (λ e.
+    let m : 0 + countOf isJoined t ≤ 1 = rw e at c in
+    rw e (only t i (le-of-suc-le-suc b) (omega arith) j))
+
+pub associated-place :
+    (s : Settings) (t : List Record) → wellFormed s t ≡ true → length t ≡ 32 → s .role ≡ station → (i : ℕ) → i < 32 → isJoined (getD t i freeOf) ≡ true
+    → othersOf s t .associated ≡ getD t i freeOf .address
+unfolding othersOf
+associated-place s t h l r i below j =
+    let w = well-of s t h l in
+    rw r (only t i (rw l below) (w .joined (rw r)) j)

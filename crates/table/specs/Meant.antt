@@ -1,0 +1,39 @@
+-- What the other end is to hear of the frame that an event writes, of the events that write one: frames and primitives.
+-- Assumes nothing.
+use Prim.Native.Nat.{ℕ, _<_, _^_}
+use mathlib.Core.Path.{_≡_}
+use mathlib.Core.Bool.{true}
+use mathlib.Core.List.{List}
+use Rattle.octets.specs.Class.{classOf, numberOf}
+use Rattle.octets.specs.Field.{allOctets, field}
+use Rattle.octets.specs.Heard.{heardOf}
+use Rattle.octets.specs.declared.heard.Heard.{Heard}
+use Rattle.octets.specs.declared.heard.Heard.the-variants as heard
+use Rattle.peer.specs.Said.{askedSays, repliedSays}
+use Rattle.peer.specs.declared.settings.Settings.{Settings}
+use Rattle.peer.specs.declared.record.Record.{Record}
+use Rattle.table.specs.Places.{addressesOf, findOf}
+use Rattle.table.specs.Others.{othersOf}
+use Rattle.table.specs.Seat.{aidOf, peerOf}
+use Rattle.table.specs.declared.rules.event.Event.{Event}
+use Rattle.table.specs.declared.rules.event.Event.the-variants as event
+
+-- A frame is made of octets, and a primitive's code has two. A clock step writes no frame.
+abbrev pub Spoken : Event → List ℕ → Type 0
+Spoken event.Frame xs = allOctets xs ≡ true
+Spoken (event.Ask q a c) xs = c < 2 ^ 16
+Spoken (event.Clock d) xs = ⊥
+
+-- "Address 2 (octets 10-15) .. names the peer"; "Number, peer address, code"
+abbrev pub spokenTo : Event → List ℕ → ℕ
+spokenTo event.Frame xs = field 6 10 xs
+spokenTo (event.Ask q a c) xs = a
+spokenTo (event.Clock d) xs = 0
+
+-- What is said: in reply to a frame, by its class, what it says and the peer's state; of a primitive, by its number and code, the AID of the
+-- peer's place and the associated AP's address.
+abbrev pub saysIn : Settings → List Record → Event → List ℕ → Heard
+saysIn s t event.Frame xs =
+    repliedSays s (peerOf t (findOf (addressesOf t) (field 6 10 xs)) (field 6 10 xs) .state) (numberOf (classOf xs)) (heardOf xs)
+saysIn s t (event.Ask q a c) xs = askedSays q c (aidOf (findOf (addressesOf t) a)) (othersOf s t .associated)
+saysIn s t (event.Clock d) xs = heard.Other

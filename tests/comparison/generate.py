@@ -1,0 +1,112 @@
+"""Writes seeded bench inputs: python3 -m tests.comparison.generate SEED COUNT DIR [--kind NAME].
+
+About COUNT events, as many files DIR/0001.in and on, since the settings record comes first
+and only there. The same seed, count and kind give the same octets on any machine.
+"""
+
+import argparse
+import collections
+import pathlib
+
+from tools import bench_input as bench
+
+from . import walk_ap, walk_damage, walk_station, walk_sweep
+from .walk import Dice, Walk
+
+# Events of one input; a walk or a sweep may make a few more.
+WALK_EVENTS = 1000
+FULL_EVENTS = 400
+REFUSED_EVENTS = 25
+LONGEST_HOLD_EVENTS = 65544
+SWEEP_EVENTS = 778
+KINDS = ("ap", "station", "ap-full", "station-full", "refused", "damaged", "sweep",
+         "longest-hold")
+# One round of walks; a plan repeats it until the count is reached.
+ROUND = ("ap", "station", "ap", "station", "ap", "station", "ap-full", "ap", "station",
+         "station-full", "ap", "station")
+TIMEOUTS = (1, 2, 3, 10, 50, 100, 100, 500, 1000, 1954, 30000, 65534, 65535)
+CROWD = 33
+
+Job = collections.namedtuple("Job", "name kind seed index events")
+
+
+def plan(seed, count, kind=None):
+    """The inputs to make, in order; each can be made apart from the others."""
+    jobs = []
+
+    def add(job_kind, index, events):
+        name = f"{len(jobs) + 1:04d}"
+        jobs.append(Job(name, job_kind, seed * 1_000_003 + len(jobs), index, events))
+
+    if kind in (None, "damaged"):
+        for index in range(len(walk_damage.damaged_inputs())):
+            add("damaged", index, 0)
+    if kind in (None, "refused"):
+        for index in range(len(walk_damage.OUT_OF_RANGE)):
+            add("refused", index, REFUSED_EVENTS)
+    if kind == "sweep" or kind is None and count > 2 * SWEEP_EVENTS * len(walk_sweep.SWEEPS):
+        for index in range(len(walk_sweep.SWEEPS)):
+            add("sweep", index, SWEEP_EVENTS)
+    if kind == "longest-hold" or kind is None and count > 4 * LONGEST_HOLD_EVENTS:
+        add("longest-hold", 0, LONGEST_HOLD_EVENTS)
+    walks = [name for name in ROUND if kind in (None, name)]
+    planned = sum(job.events for job in jobs)
+    while walks and planned < count:
+        for walk_kind in walks:
+            usual = FULL_EVENTS if walk_kind.endswith("full") else WALK_EVENTS
+            events = min(usual, count - planned)
+            if events > 0:
+                add(walk_kind, len(jobs), events)
+                planned += events
+    return jobs
+
+
+def walked(job, dice):
+    """A guided walk: settings drawn, a crowd put in where the kind asks for one, then steps."""
+    role_kind, _, full = job.kind.partition("-")
+    moves = walk_ap if role_kind == "ap" else walk_station
+    role = bench.ACCESS_POINT if role_kind == "ap" else bench.STATION
+    peers = CROWD + dice.below(8) if full else dice.of((1, 2, 3, 4, 5, 6, 6, 7, 8, 9, 12))
+    timeouts = dice.of(TIMEOUTS), dice.of(TIMEOUTS)
+    if full and role == bench.STATION:
+        timeouts = dice.of((20, 1000, 65535)), timeouts[1]
+    walk = Walk(dice, role, peers, dice.below(2), timeouts)
+    if full:
+        moves.fill(walk)
+    while walk.events() < job.events:
+        moves.step(walk)
+    return walk.octets()
+
+
+def make(job):
+    """The octets of one input."""
+    if job.kind == "damaged":
+        return walk_damage.damaged_inputs()[job.index]
+    dice = Dice(job.seed)
+    if job.kind == "refused":
+        return walk_damage.refused_walk(dice, job.index, job.events)
+    if job.kind == "sweep":
+        return walk_sweep.swept(dice, job.index)
+    if job.kind == "longest-hold":
+        walk = Walk(dice, bench.STATION, 1, 0, (100, 100))
+        walk_station.longest_hold(walk)
+        return walk.octets()
+    return walked(job, dice)
+
+
+def main():
+    parser = argparse.ArgumentParser(description=__doc__.splitlines()[0])
+    parser.add_argument("seed", type=int)
+    parser.add_argument("count", type=int)
+    parser.add_argument("dir", type=pathlib.Path)
+    parser.add_argument("--kind", choices=KINDS)
+    given = parser.parse_args()
+    given.dir.mkdir(parents=True, exist_ok=True)
+    jobs = plan(given.seed, given.count, given.kind)
+    for job in jobs:
+        (given.dir / f"{job.name}.in").write_bytes(make(job))
+    print(f"{len(jobs)} inputs in {given.dir}")
+
+
+if __name__ == "__main__":
+    main()

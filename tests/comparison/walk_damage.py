@@ -1,0 +1,89 @@
+"""Short bench inputs that are damaged, and walks whose settings are out of range."""
+
+from tools import bench_input as bench
+
+from .walk import OWN, Walk
+from .walk_odd import odd_frame, odd_primitive
+
+PEER = bench.address("02:00:00:00:01:00")
+GOOD = dict(role=bench.ACCESS_POINT, own=OWN, rsna=0, authentication_timeout=100,
+            association_timeout=100)
+# One change each to good settings; every event after them is refused with 2.
+OUT_OF_RANGE = (
+    dict(role=0), dict(role=3), dict(role=255), dict(rsna=2), dict(rsna=255),
+    dict(authentication_timeout=0), dict(association_timeout=0),
+    dict(role=bench.STATION, authentication_timeout=0, association_timeout=0),
+    dict(own=bench.ZERO), dict(own=bench.BROADCAST), dict(own="03:00:00:00:00:0a"),
+    dict(own="01:00:00:00:00:00"), dict(role=bench.STATION, own=bench.ZERO))
+
+
+def base():
+    """The records that damage is done to: settings, then one event of each kind."""
+    return [bench.settings(**GOOD),
+            bench.frame(bench.control(bench.ACK, OWN)),
+            bench.primitive(3, PEER, 7),
+            bench.clock(5),
+            bench.frame(bench.authentication(OWN, PEER))]
+
+
+def cuts():
+    """The base cut at each position up to the end of its third event."""
+    whole = b"".join(base())
+    end = sum(len(record) for record in base()[:4])
+    return [whole[:length] for length in range(end + 6)] + [whole[:-1]]
+
+
+def _placed(bad, place):
+    """The base with one bad record put in before the one at this place."""
+    records = base()
+    return b"".join(records[:place] + [bad] + records[place:])
+
+
+def bad_records():
+    """Records at fault, and a few that only look so (an empty frame, one of 4,096)."""
+    mark_faults = [bench.record(bench.CLOCK, b"\1\0", mark=mark)
+                   for mark in (b"\x0b\x04", b"\x0a\x03", b"\x03\x0b", b"\0\0", b"\xff\xff")]
+    kind_faults = [bench.record(kind, bytes(length)) for kind in (4, 5, 128, 255)
+                   for length in (0, 2)]
+    length_faults = [bench.record(kind, bytes(length)) for kind, good in ((1, 9), (3, 2))
+                     for length in (0, good - 1, good + 1, 256 + good)]
+    long_frames = [bench.record(bench.FRAME, bytes(length)) for length in (4097, 8192, 65535)]
+    lying = [bench.record(bench.CLOCK, b"\1\0", length=1), bench.record(bench.FRAME, b"", 12)]
+    sound = [bench.frame(b""), bench.frame(bytes(bench.LONGEST_FRAME)),
+             bench.clock(0), bench.primitive(0, PEER, 0)]
+    return (mark_faults + kind_faults + length_faults + long_frames + lying + sound
+            + [bench.settings(**GOOD)])
+
+
+def bad_starts():
+    """Inputs whose first record is at fault, and settings with nothing after them."""
+    good = bench.settings(**GOOD)
+    body = good[5:]
+    rest = b"".join(base()[1:])
+    starts = [bench.record(bench.SETTINGS, body[:11]), bench.record(bench.SETTINGS, body + b"\0"),
+              bench.record(bench.SETTINGS, b""), bench.record(bench.SETTINGS, body, mark=b"\0\0"),
+              bench.record(bench.SETTINGS, body + b"\1\0"), b"", b"\n"]
+    return [start + rest for start in starts] + [good, good + good, good + b"\0", b"\x0b", b"\x0c"]
+
+
+def damaged_inputs():
+    """All of them, always the same ones in the same order."""
+    middle = [_placed(bad, place) for bad in bad_records() for place in (1, 3)]
+    return cuts() + middle + bad_starts()
+
+
+def refused_walk(dice, index, events):
+    """A walk under settings out of range: frames, primitives and clock steps of all sorts."""
+    changed = dict(GOOD, **OUT_OF_RANGE[index % len(OUT_OF_RANGE)])
+    walk = Walk(dice, changed["role"], 3, 0, (100, 100))
+    walk.records[0] = bench.settings(**changed)
+    while walk.events() < events:
+        peer = dice.of(walk.peers)
+        shape = dice.below(3)
+        if shape == 0:
+            odd_frame(walk, peer)
+        elif shape == 1:
+            odd_primitive(walk, peer)
+        else:
+            walk.pass_time(dice.of((0, 1, 100, 65535)))
+    return walk.octets()

@@ -1,0 +1,107 @@
+"""Odd events of a walk: any type, subtype and length, bad addresses, bad codes, odd elements."""
+
+from tools import bench_input as bench
+
+from .walk import FOREIGN, GROUPS
+
+STRANGERS = (bench.address("02:00:00:00:02:01"), bench.address("fe:ff:ff:ff:ff:ff"))
+LEAST_MANAGEMENT = {bench.AUTHENTICATION: 30, bench.ASSOCIATION_REQUEST: 28,
+                    bench.REASSOCIATION_REQUEST: 34, bench.ASSOCIATION_RESPONSE: 30,
+                    bench.REASSOCIATION_RESPONSE: 30, bench.DEAUTHENTICATION: 26,
+                    bench.DISASSOCIATION: 26}
+FIXED_LENGTHS = (0, 1, 2, 9, 10, 11, 15, 16, 17, 23, 24, 25, 26, 28, 30, 34, 40)
+# What follows the 24 octets: nothing set, a first and a second authentication, a success, a
+# rejection with a comeback of 2, and a shower of octets.
+FILLS = (b"\0", b"\0\0\1\0\0\0", b"\0\0\2\0\0\0", b"\1\0\0\0\1\xc0",
+         b"\1\0\x11\0\0\0\x38\5\3\2\0\0\0", b"\x38\5\3\xff\7\1\0\x80\xfe\x5a\2")
+CODES = (0, 1, 2, 17, 256, 65535)
+SINGLE_CODE = (1, 4, 5, 9)
+ANY_BUT_ZERO = (3, 6)
+
+
+def least_length(kind, subtype):
+    if kind == bench.CONTROL:
+        return 10 if subtype in (bench.CTS, bench.ACK) else 16
+    return LEAST_MANAGEMENT.get(subtype, 24) if kind == bench.MANAGEMENT else 24
+
+
+def odd_elements(dice, whole=False):
+    """A few elements without a good comeback. Unless they are to be whole, the last may be cut
+    short or be a single octet; then nothing after it can be found."""
+    parts = []
+    for _ in range(dice.below(4)):
+        parts.append(dice.of((
+            bench.timeout_interval(9, kind=dice.of((0, 1, 2, 4, 255))),
+            bench.element(56, b"\3\5\0\0"),
+            bench.element(56, b"\3\5\0\0\0\0"),
+            bench.element(56),
+            bench.element(dice.of((0, 1, 55, 57, 221, 255)), b"\x38\5\3\1\0\0\0"),
+            bench.element(dice.below(56), dice.octets(dice.below(20))),
+            bench.element(5, b"\3\1\0\0\0"))))
+    if not whole:
+        parts.append(dice.of((
+            b"", b"", b"\x38", b"\0", b"\x38\5", b"\x38\5\3\0", b"\x38\5\3\1\0\0",
+            bench.element(221, b"\x38\5\3\0\0\0\0", length=255), b"\x38\4\3\0\0",
+            bench.timeout_interval(6), bench.timeout_interval(0) + b"\x38\5\3")))
+    return b"".join(parts)
+
+
+def odd_frame(walk, peer):
+    """One frame of any type and subtype, near the least length of its kind or of a fixed one."""
+    dice = walk.dice
+    kind, subtype = dice.weighted(((50, 0), (22, 1), (22, 2), (6, 3))), dice.below(16)
+    receiver = dice.weighted(((68, walk.own), (16, dice.of(GROUPS)), (16, dice.of(FOREIGN))))
+    sender = dice.weighted(((86, peer.address), (4, dice.of(STRANGERS)), (3, walk.own),
+                            (4, dice.of(GROUPS)), (3, bench.ZERO)))
+    version = 0 if dice.chance(94) else 1 + dice.below(3)
+    least = least_length(kind, subtype)
+    length = dice.weighted(((25, least), (15, least - 1), (20, least + 1),
+                            (20, least + dice.below(40)), (19, dice.of(FIXED_LENGTHS)),
+                            (1, bench.LONGEST_FRAME - dice.below(2))))
+    flags = 0 if dice.chance(80) else dice.below(64) << 2
+    walk.hear(bench.any_frame(kind, subtype, receiver, sender, length, dice.of(FILLS), version,
+                              dice.below(4), flags))
+    heard = version == 0 and receiver not in FOREIGN and sender == peer.address
+    if heard and kind == bench.MANAGEMENT and length >= least:
+        if subtype == bench.DEAUTHENTICATION:
+            walk.deauthenticated(peer)
+        elif subtype == bench.DISASSOCIATION:
+            walk.disassociated(peer)
+
+
+def bad_code(dice, which):
+    """A code this primitive does not allow, where there is one."""
+    if which in SINGLE_CODE:
+        return dice.of(CODES[1:])
+    if which in ANY_BUT_ZERO:
+        return 0
+    return dice.of(CODES[2:]) if which == 10 else dice.of(CODES)
+
+
+def good_code(dice, which):
+    if which in ANY_BUT_ZERO:
+        return dice.of(CODES[1:])
+    return 0 if which in SINGLE_CODE else dice.below(2)
+
+
+def odd_primitive(walk, peer):
+    """A primitive that is unknown, of the other role, with a bad code, or to a bad or a
+    strange address."""
+    dice = walk.dice
+    fault = dice.below(5)
+    which = 1 + dice.below(10)
+    if fault == 0:
+        which = dice.of((0, 11, 12, 13, 128, 255))
+        walk.ask(which, peer.address, dice.of(CODES))
+    elif fault == 1:
+        which = dice.of((2, 7, 8, 10) if walk.role == bench.STATION else (1, 4, 5))
+        walk.ask(which, peer.address, good_code(dice, which))
+    elif fault == 2:
+        which = dice.of((1, 3, 4, 5, 6, 9, 10))
+        walk.ask(which, peer.address, bad_code(dice, which))
+    elif fault == 3:
+        walk.ask(which, dice.of(GROUPS + (bench.ZERO, walk.own)), good_code(dice, which))
+    elif which > 1:
+        walk.ask(which, dice.of(STRANGERS), good_code(dice, which))
+    else:
+        walk.ask(9, dice.of(STRANGERS), 0)

@@ -1,0 +1,79 @@
+"""Sweeps: one peer is brought into a given state again and again, and every type and subtype to
+every sort of Address 1 at its boundary lengths, then every primitive and code, is tried there."""
+
+from tools import bench_input as bench
+
+from .walk import FOREIGN, GROUPS, LONGEST_STEP, Walk
+from .walk_odd import FILLS, LEAST_MANAGEMENT, least_length
+
+# Each sweep's role, RSNA and state; State 3 is reached where RSNA is required.
+SWEEPS = tuple((role, rsna, state) for role in (bench.ACCESS_POINT, bench.STATION)
+               for rsna, state in ((0, 0), (0, 1), (1, 2), (1, 3), (0, 4)))
+PRIMITIVES = tuple(range(12))
+CODES = (0, 1, 2, 65535)
+
+
+def reset(walk, peer):
+    """No record, no exchange, no hold: our own farewell, then time for the usual hold."""
+    walk.ask(3, peer.address, 3)
+    walk.pass_time(LONGEST_STEP)
+
+
+def reach_at_ap(walk, peer, state):
+    if state > 0:
+        walk.hear(bench.authentication(walk.own, peer.address))
+    if state > 1:
+        walk.ask(2, peer.address)
+    if state > 2:
+        walk.hear(bench.association_request(walk.own, peer.address))
+        walk.ask(7, peer.address)
+        walk.ask(10, peer.address, 1)
+
+
+def reach_at_station(walk, peer, state):
+    if state > 0:
+        walk.ask(1, peer.address)
+    if state > 1:
+        walk.hear(bench.authentication(walk.own, peer.address, 2))
+    if state > 2:
+        walk.ask(4, peer.address)
+        walk.hear(bench.association_response(walk.own, peer.address))
+
+
+def sweep_frames(walk, peer, reach):
+    """Only the kinds with fields of their own can change the state; after those it is reached
+    anew."""
+    for kind in range(4):
+        for subtype in range(16):
+            least = least_length(kind, subtype)
+            acting = kind == bench.MANAGEMENT and subtype in LEAST_MANAGEMENT
+            for receiver in (walk.own, GROUPS[0], FOREIGN[0]):
+                for length in (least - 1, least, least + 1):
+                    walk.hear(bench.any_frame(kind, subtype, receiver, peer.address, length,
+                                              walk.dice.of(FILLS)))
+                    if acting and length >= least and receiver != FOREIGN[0]:
+                        reach()
+
+
+def sweep_primitives(walk, peer, reach):
+    for which in PRIMITIVES:
+        for code in CODES:
+            walk.ask(which, peer.address, code)
+            reach()
+
+
+def swept(dice, index):
+    """The octets of one sweep."""
+    role, rsna, state = SWEEPS[index]
+    walk = Walk(dice, role, 1, rsna, (1000, 1000))
+    peer = walk.peers[0]
+    path = reach_at_ap if role == bench.ACCESS_POINT else reach_at_station
+
+    def reach():
+        reset(walk, peer)
+        path(walk, peer, state)
+
+    reach()
+    sweep_frames(walk, peer, reach)
+    sweep_primitives(walk, peer, reach)
+    return walk.octets()

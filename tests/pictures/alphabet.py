@@ -1,0 +1,114 @@
+"""The alphabet of events: every frame kind, primitive and clock step, and the name of its cause.
+
+Events of one name must do the same to a state, so the names are as fine as the rules: the status
+is 0 or not, the AID is in range or not, a frame is to our own address or to a group.
+"""
+
+import collections
+import functools
+
+from tools import bench_input as bench
+
+OWN = bench.address("02:00:00:00:00:0a")
+PEER = bench.address("02:00:00:00:01:01")
+OTHER = bench.address("02:00:00:00:01:02")
+TIMEOUT = 100
+LONGEST_STEP = 65535
+
+# by: `frame`, `primitive-N` or `clock`; about: the peer's address, None for a clock step;
+# comeback: the comeback that the frame gives, None where it gives none.
+Event = collections.namedtuple("Event", "by cause about octets comeback", defaults=(None,))
+
+NAMES = {1: "AUTHENTICATE.request", 2: "AUTHENTICATE.response", 3: "DEAUTHENTICATE.request",
+         4: "ASSOCIATE.request", 5: "REASSOCIATE.request", 6: "DISASSOCIATE.request",
+         7: "ASSOCIATE.response", 8: "REASSOCIATE.response", 9: "SETPROTECTION",
+         10: "transmit report"}
+CODES = (0, 1, 17)
+
+
+def zero_or_not(word, value):
+    return f"{word} 0" if value == 0 else f"{word} not 0"
+
+
+def primitive_cause(which, code):
+    """The name of a primitive with a code that it takes; of any other the two numbers."""
+    if which in (1, 4, 5, 9) and code == 0 or which in (3, 6) and code != 0:
+        return NAMES[which]
+    if which in (2, 7, 8):
+        return f"{NAMES[which]}, {zero_or_not('status', code)}"
+    if which == 10 and code < 2:
+        return f"{NAMES[which]}, {'acknowledged' if code else 'not acknowledged'}"
+    return f"primitive {which}, code {code}"
+
+
+def primitives(about):
+    return [Event(f"primitive-{which}", primitive_cause(which, code), about,
+                  bench.primitive(which, about, code))
+            for which in range(12) for code in CODES]
+
+
+def clocks():
+    """No time runs out; the exchanges do; the holds do too."""
+    return [Event("clock", f"{step} TU", None, bench.clock(step))
+            for step in (1, TIMEOUT, LONGEST_STEP)]
+
+
+def authentications(to, about):
+    for algorithm, transaction, status in ((0, 1, 0), (0, 1, 17), (0, 2, 0), (0, 2, 1), (0, 2, 17),
+                                           (0, 3, 0), (1, 1, 0), (1, 2, 0)):
+        cause = f"Authentication, transaction {transaction}"
+        if transaction == 2:
+            cause += ", " + zero_or_not("status", status)
+        if algorithm:
+            cause += ", another algorithm"
+        yield cause, bench.authentication(to, about, transaction, status, algorithm), None
+
+
+def responses(to, about):
+    for kind, make in (("Association", bench.association_response),
+                       ("Reassociation", bench.reassociation_response)):
+        for aid in (1, 0xC000 | 2007):
+            yield f"{kind} response, status 0", make(to, about, 0, aid), None
+        for aid in (0xC000, 2008):
+            yield f"{kind} response, status 0, bad AID", make(to, about, 0, aid), None
+        for status, comeback in ((17, None), (30, 0), (1, 5)):
+            elements = b"" if comeback is None else bench.timeout_interval(comeback)
+            octets = make(to, about, status, 0, elements=elements)
+            yield f"{kind} response, status not 0", octets, comeback
+
+
+def requests(to, about):
+    yield "Association request", bench.association_request(to, about), None
+    yield "Reassociation request", bench.reassociation_request(to, about, OTHER), None
+
+
+def farewells(to, about):
+    yield "Deauthentication", bench.deauthentication(to, about), None
+    yield "Disassociation", bench.disassociation(to, about), None
+
+
+def acting_frames(about):
+    """The frames that have a rule. A farewell to a group address goes by the same name."""
+    events = []
+    for to, note in ((OWN, ""), (bench.BROADCAST, " to a group address")):
+        for make in (authentications, responses, requests):
+            events += [Event("frame", cause + note, about, bench.frame(octets), comeback)
+                       for cause, octets, comeback in make(to, about)]
+        events += [Event("frame", cause, about, bench.frame(octets))
+                   for cause, octets, _ in farewells(to, about)]
+    return events
+
+
+def other_frames(about):
+    """Every type and subtype that has no rule of its own, long enough for any of them."""
+    acting = {0, 1, 2, 3, 10, 11, 12}
+    return [Event("frame", f"type {kind} subtype {subtype}", about,
+                  bench.frame(bench.any_frame(kind, subtype, to, about, 40)))
+            for kind in range(4) for subtype in range(16) for to in (OWN, bench.BROADCAST)
+            if kind or subtype not in acting]
+
+
+@functools.lru_cache(maxsize=None)
+def events(about, odd):
+    """All events about a peer, with those frames that have no rule or without them."""
+    return acting_frames(about) + primitives(about) + (other_frames(about) if odd else [])

@@ -1,0 +1,81 @@
+"""Plays the scenes of the message charts and checks the pictures.
+
+python3 -m tests.pictures.check --bench CMD [--trace WORD]
+
+Each step's line, the octets written and the peer's hold must be the scene's; in the join the octets
+that one side hears are those that the other wrote. The pictures in docs/pictures must be what
+tools/pictures/make.py makes.
+"""
+
+import argparse
+import shlex
+import sys
+
+from tools import bench_input
+from tools.pictures import make, move_list, scenes
+
+from . import situations
+
+EVERY_SIDE = ("station", "ap")
+
+
+def told(said):
+    """The octets written, in hexadecimal, and the one record's hold, of an event's lines."""
+    octets = "".join(line.split()[1] for line in said if line.startswith("  octets "))
+    holds = [found.group(5) for found in map(situations.PLACE.match, said) if found]
+    return octets, holds
+
+
+def played(name, steps, side, command):
+    """The faults of one side of a scene."""
+    mine = [step for step in steps if step.side == side]
+    said = situations.run(command, scenes.bench_input(steps, side))
+    if len(said) != len(mine):
+        return [f"{name}, {side}: {len(mine)} steps, {len(said)} lines"]
+    faults = []
+    for number, (step, lines) in enumerate(zip(mine, said), 1):
+        octets, holds = told(lines)
+        for what, wanted, got in (("line", f"{number} {step.answer}", lines[0]),
+                                  ("octets", step.sent.hex(), octets),
+                                  ("hold", [str(step.hold)], holds)):
+            if wanted != got:
+                faults.append(f"{name}, {side}, step {number}: the chart has {what} {wanted}, "
+                              f"the program {got}")
+    return faults
+
+
+def unsent(name, steps):
+    """Frames of a scene with two sides that the other side's table did not write: only those
+    that no table writes, ACK and data."""
+    if {step.side for step in steps} != set(EVERY_SIDE):
+        return []
+    written = {step.sent for step in steps}
+    heard = [step.event[1] for step in steps if step.event[0] == "hear"]
+    return [f"{name}: a frame is heard that nobody wrote: {octets.hex()}" for octets in heard
+            if octets not in written and octets[0] >> 2 & 3 == bench_input.MANAGEMENT]
+
+
+def main():
+    parser = argparse.ArgumentParser(description=__doc__.splitlines()[0])
+    parser.add_argument("--bench", required=True)
+    parser.add_argument("--trace", default="trace", metavar="WORD")
+    given = parser.parse_args()
+    command = shlex.split(given.bench) + [given.trace]
+    faults = []
+    try:
+        for name, steps in scenes.SCENES.items():
+            faults += unsent(name, steps)
+            for side in EVERY_SIDE:
+                if any(step.side == side for step in steps):
+                    faults += played(name, steps, side, command)
+        faults += [f"{name} is not as tools/pictures/make.py makes it" for name in make.stale()]
+    except (move_list.Fault, situations.Trouble) as fault:
+        faults.append(str(fault))
+    for fault in faults:
+        print(fault)
+    print(f"{len(scenes.SCENES)} scenes, {len(faults)} faults")
+    sys.exit(1 if faults else 0)
+
+
+if __name__ == "__main__":
+    main()

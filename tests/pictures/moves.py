@@ -1,0 +1,90 @@
+"""Compares docs/pictures/moves.txt with every move that a program makes.
+
+python3 -m tests.pictures.moves --bench CMD [--trace WORD]
+
+The moves are derived by trying every event in every situation (situations.py). A move that the
+program makes and the list has not, or the other way round, is named; so is a class of frames that
+passes in a state where the list keeps it out, or the other way round.
+"""
+
+import argparse
+import shlex
+import sys
+
+from tools.pictures import move_list
+
+from . import situations
+
+ROLES = {number: word for word, number in move_list.ROLES.items()}
+# A kind of frame of each class.
+PROBES = {"type 0 subtype 8": 1, "Disassociation": 2, "type 2 subtype 0": 3}
+
+
+def expanded(lines):
+    """The listed moves, one for each RSNA and each hold."""
+    return {situations.Move(*line._replace(rsna=rsna, hold=hold))
+            for line in lines for rsna in line.rsna for hold in line.hold}
+
+
+def passing(turns):
+    """For each state the classes that pass; a class is asked by its probe."""
+    seen = {}
+    for turn in turns:
+        klass = PROBES.get(turn.event.cause)
+        if klass and turn.event.about == situations.PEER:
+            seen.setdefault((turn.before[0].state, klass), set()).add(turn.verdict)
+    for (state, klass), verdicts in seen.items():
+        if len(verdicts) > 1:
+            raise situations.Trouble(f"class {klass} in state {state} is sometimes admitted only")
+    return {(state, klass) for (state, klass), verdicts in seen.items() if verdicts == {"A"}}
+
+
+def shown(move):
+    state = {0: "none"}
+    return (f"{ROLES[move.role]}, RSNA {move.rsna}: {state.get(move.before, move.before)} to "
+            f"{state.get(move.after, move.after)} by {move.by}, {move.cause}; DS {move.ds}, "
+            f"hold {move.hold}")
+
+
+def derived(command):
+    """All moves, what passes, and how much was tried; ends where a cause has two outcomes."""
+    moves, passes, counts = set(), set(), [0, 0]
+    for role in ROLES:
+        for rsna in (0, 1):
+            turns = list(situations.explore(command, role, rsna))
+            fault = situations.one_cause_one_outcome(turns)
+            if fault:
+                raise situations.Trouble(f"{ROLES[role]}, RSNA {rsna}: {fault}")
+            passes |= passing(turns)
+            counts[0] += len({situations.situation(turn.before) for turn in turns})
+            counts[1] += len(turns)
+            for turn in turns:
+                moves.update(situations.moves_of(turn, role, rsna))
+    return moves, passes, counts
+
+
+def main():
+    parser = argparse.ArgumentParser(description=__doc__.splitlines()[0])
+    parser.add_argument("--bench", required=True)
+    parser.add_argument("--trace", default="trace", metavar="WORD")
+    given = parser.parse_args()
+    try:
+        lines, table = move_list.read()
+        made, passes, counts = derived(shlex.split(given.bench) + [given.trace])
+    except (move_list.Fault, situations.Trouble) as fault:
+        sys.exit(f"moves: {fault}")
+    wanted = expanded(lines)
+    in_list = {(state, klass) for state, classes in table.items() for klass in classes}
+    faults = [f"made and not in the list: {shown(move)}" for move in sorted(made - wanted)]
+    faults += [f"in the list and never made: {shown(move)}" for move in sorted(wanted - made)]
+    faults += [f"class {klass} in state {state}: the list and the program differ"
+               for state, klass in sorted(passes ^ in_list)]
+    for fault in faults:
+        print(fault)
+    print(f"{counts[0]} situations, {counts[1]} events tried, {len(made)} moves, "
+          f"{len(faults)} faults")
+    sys.exit(1 if faults else 0)
+
+
+if __name__ == "__main__":
+    main()

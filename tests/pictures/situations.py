@@ -1,0 +1,151 @@
+"""Every situation that a table can come to with two peers, and every move of a state on the way.
+
+A situation is what the two records hold: state, exchange, and whether a hold runs. From the empty
+table each event of the alphabet is tried in each situation found so far, until none is new. The
+program alone says what comes of an event: its trace shows the table.
+"""
+
+import collections
+import re
+import subprocess
+
+from tools import bench_input as bench
+
+from .alphabet import LONGEST_STEP, OTHER, OWN, PEER, TIMEOUT, clocks, events
+
+PLACE = re.compile(r"  place \d+ ([0-9a-f]{12}) (\d+) (\d+) (\d+) (\d+)")
+KINDS = {7: "authentication", 8: "association", 9: "reassociation"}
+USUAL_HOLD = 1954
+SECONDS = 120
+# Both records given up, and time for every hold: the table is empty again.
+RESET = [bench.primitive(3, PEER, 3), bench.primitive(3, OTHER, 3), bench.clock(LONGEST_STEP)]
+
+Row = collections.namedtuple("Row", "state exchange left hold")
+NO_ROW = Row(0, 0, 0, 0)
+Turn = collections.namedtuple("Turn", "event verdict ds before after")
+Move = collections.namedtuple("Move", "role rsna before after ds hold by cause")
+
+
+class Trouble(Exception):
+    """The program did something that no reading of its trace allows for."""
+
+
+def run(command, octets):
+    """What the program says of each event: its line, and the lines of its trace."""
+    try:
+        done = subprocess.run(command, input=octets, capture_output=True, timeout=SECONDS)
+    except (OSError, subprocess.TimeoutExpired) as fault:
+        raise Trouble(f"{command[0]} did not run: {fault}") from fault
+    said = []
+    for line in done.stdout.decode("latin-1").splitlines():
+        if not line.startswith(" "):
+            said.append([line])
+        elif said:
+            said[-1].append(line)
+    return said
+
+
+def rows_of(said):
+    """The two peers' rows after an event."""
+    rows = {}
+    for found in filter(None, map(PLACE.match, said)):
+        rows[bytes.fromhex(found.group(1))] = Row(*map(int, found.groups()[1:]))
+    return rows.get(PEER, NO_ROW), rows.get(OTHER, NO_ROW)
+
+
+def situation(rows):
+    return tuple((row.state, row.exchange, row.hold > 0) for row in rows)
+
+
+def alphabet(role, now):
+    """All events about the peer and, at a station, about the other: at an access point no event
+    looks at another record. Frames without a rule are tried where the other has no record."""
+    others = events(OTHER, False) if role == bench.STATION else []
+    return events(PEER, now[1][0] == 0) + others + clocks()
+
+
+def tried(command, role, rsna, found):
+    """One turn for each event in each of the situations found, each begun from an empty table."""
+    records, trials = [bench.settings(role, OWN, rsna, TIMEOUT, TIMEOUT)], []
+    for now, path in found.items():
+        for event in alphabet(role, now):
+            records += RESET + path + [event.octets]
+            trials.append((event, len(records) - 2, now))
+    said = run(command, b"".join(records))
+    if len(said) != len(records) - 1:
+        raise Trouble(f"{len(records) - 1} events, {len(said)} lines")
+    for event, end, now in trials:
+        before, after = rows_of(said[end - 1]), rows_of(said[end])
+        if situation(before) != now:
+            raise Trouble(f"the way to {now} led to {situation(before)}")
+        fields = said[end][0].split()
+        yield now, Turn(event, fields[2], fields[6], before, after)
+
+
+def explore(command, role, rsna):
+    """Every turn of every situation; the way to a situation is a list of records. Where the two
+    peers' parts are exchanged it is the same situation."""
+    start = situation((NO_ROW, NO_ROW))
+    ways, new, known = {}, {start: []}, {start}
+    while new:
+        ways.update(new)
+        found = {}
+        for now, turn in tried(command, role, rsna, new):
+            after = situation(turn.after)
+            if after not in known:
+                known |= {after, after[::-1]}
+                found[after] = ways[now] + [turn.event.octets]
+            yield turn
+        new = found
+
+
+def hold_set(turn, before, after):
+    """`kept`, the usual hold, or the comeback that the frame gave."""
+    if turn.event.by == "clock" or after.state == 0:
+        return "kept"
+    if turn.event.comeback is not None and after.hold == turn.event.comeback:
+        return "comeback"
+    if after.hold == before.hold:
+        return "kept"
+    return "1954" if after.hold == USUAL_HOLD else f"{after.hold}?"
+
+
+def clock_cause(step, before, after):
+    """What a clock step found: an exchange that ran out, or none; for a record that is freed, a hold
+    that is over, or not."""
+    if before.left and before.left <= step:
+        why = f"{KINDS.get(before.exchange, 'an exchange of an AP')} timed out"
+    else:
+        why = "exchange under way" if before.exchange else "no exchange"
+    if after.state:
+        return why
+    return why + (", no hold left" if before.hold <= step else ", a hold left")
+
+
+def cause_of(turn, address, before, after):
+    """The event's name, as the record with this address sees it."""
+    if turn.event.by == "clock":
+        return clock_cause(int(turn.event.cause.split()[0]), before, after)
+    if turn.event.about == address:
+        return turn.event.cause
+    return f"{turn.event.cause}, {'from' if turn.event.by == 'frame' else 'to'} another AP"
+
+
+def moves_of(turn, role, rsna):
+    """The moves that a turn makes: none, the peer's, the other's, or both."""
+    for address, before, after in zip((PEER, OTHER), turn.before, turn.after):
+        if before.state != after.state:
+            ds = turn.ds if turn.event.about == address else "-"
+            yield Move(role, rsna, before.state, after.state, ds, hold_set(turn, before, after),
+                       turn.event.by, cause_of(turn, address, before, after))
+
+
+def one_cause_one_outcome(turns):
+    """Events of one name do the same to both states in one situation; the first that do not."""
+    seen = {}
+    for turn in turns:
+        key = (situation(turn.before), turn.event.by, turn.event.cause, turn.event.about)
+        states = tuple(row.state for row in turn.after)
+        if seen.setdefault(key, states) != states:
+            return f"'{turn.event.cause}' in {key[0]} leads to {seen[key]} and to {states}"
+    return None

@@ -1,0 +1,229 @@
+"""Tests of the scenario tool's text: its words, round trips of frames, and what it says of faults.
+
+python3 -m tests.scenarios.words: no arguments; the last line is a count. Each fault is played
+through the command itself, so that what a person would see is what is compared.
+"""
+
+import pathlib
+import re
+import subprocess
+import sys
+import tempfile
+
+from tests.comparison import generate
+from tools import bench_input as bench
+from tools.scenario import answers, frame_words, frames, manual, primitives, read
+
+from .wrong import all_wrong
+
+ROOT = pathlib.Path(__file__).resolve().parents[2]
+OWN, PEER, OTHER = "02:00:00:00:00:01", "02:00:00:00:00:0a", "06:01:02:03:04:05"
+GENERATED = 2000
+ADDRESSES = (PEER, OTHER, "ff:ff:ff:ff:ff:ff", "00:00:00:00:00:00")
+OCTETS = {"00": b"\0", "3805030000000038": bytes.fromhex("3805030000000038"),
+          "38050300": b"\x38\5\3\0", "dd00*200": b"\xdd\0" * 200}
+# The primitives by number, each with the name of its code.
+PRIMITIVES = (("authenticate", "code"), ("respond-authenticate", "status"),
+              ("deauthenticate", "reason"), ("associate", "code"), ("reassociate", "code"),
+              ("disassociate", "reason"), ("respond-associate", "status"),
+              ("respond-reassociate", "status"), ("set-protection", "code"),
+              ("report", "acknowledged"))
+
+
+def event(line, first=f"ap own={OWN}"):
+    """The one event of a line."""
+    _, lines = read.read(f"{first}\n{line}\n", "test")
+    return lines[1].events[0]
+
+
+def classes():
+    """The proved table of classes, read from the code: type, subtype and class of each that has one."""
+    code = (ROOT / "crates/octets/src/class.rt").read_text()
+    body = re.search(r"const CLASSES: \[u8; 64\] = \[(.*?)\];", code, re.DOTALL)[1]
+    numbers = [int(text) for text in re.findall(r"\d+", re.sub(r"//.*", "", body))]
+    assert len(numbers) == 64, "the table of classes has 64 entries"
+    return {(at // 16, at % 16, number) for at, number in enumerate(numbers) if number}
+
+
+def words_cover_classes():
+    """A word for each type and subtype with a class, of that class, and for no other."""
+    written = {(row.type, row.subtype, row.class_) for row in frame_words.TABLE}
+    return [f"not the same in words and classes: {odd}" for odd in sorted(written ^ classes())]
+
+
+def samples(field):
+    """Texts for a field, each with the value that it stands for."""
+    if field.kind == "address":
+        return {text: bench.address(text) for text in ADDRESSES}
+    if field.kind == "octets":
+        return OCTETS
+    values = {0, 1, field.highest // 2, field.highest}
+    if field.name == "flags":
+        values = {0, 4, 0xFC}
+    return {str(value): value for value in values}
+
+
+def round_trip(row, field, text, value):
+    """What is read back from the octets is the value written, and writes the same octets."""
+    needed = [("from", PEER), ("current-ap", OTHER), (field.name, text)]
+    given = {name: words for name, words in needed if name in frame_words.fields_of(row)}
+    line = " ".join([f"frame {row.word}"] + [f"{name}={words}" for name, words in given.items()])
+    octets = event(line).frame
+    found = frames.decode(octets)
+    if found is None:
+        return f"{line}: not read back"
+    back, fields = found
+    field_value = fields.get(field.name)
+    if field.name == "aid-field" and "aid" in fields:
+        field_value = fields["aid"] and fields["aid"] | 0xC000
+    if field.name == "elements" and "comeback" in fields:
+        field_value = bench.timeout_interval(fields["comeback"]) + field_value
+    if back != row and field.name != "transaction":
+        return f"{line}: read back as {back.word}"
+    if field_value != value:
+        return f"{line}: {field.name} read back as {field_value}"
+    if frames.encode(back, fields) != octets:
+        return f"{line}: its fields write other octets"
+    return None
+
+
+def frames_round_trip():
+    trips = [round_trip(row, frame_words.FIELDS[name], text, value)
+             for row in frame_words.TABLE
+             for name in frame_words.fields_of(row) if name != "length"
+             for text, value in samples(frame_words.FIELDS[name]).items()]
+    return [fault for fault in trips if fault]
+
+
+def generated_frames_round_trip():
+    """Frames of the generated walks: what is read from their octets writes the same octets."""
+    faults, read_back = [], 0
+    for job in generate.plan(1, GENERATED, "ap") + generate.plan(1, GENERATED, "station"):
+        octets = generate.make(job)
+        while octets:
+            end = bench.HEAD + int.from_bytes(octets[3:5], "little")
+            kind, body, octets = octets[2], octets[bench.HEAD:end], octets[end:]
+            found = frames.decode(body) if kind == bench.FRAME else None
+            read_back += found is not None
+            if found and frames.encode(*found) != body:
+                faults.append(body.hex())
+    return faults + ([] if read_back > GENERATED // 2 else [f"only {read_back} frames read back"])
+
+
+def frames_as_laid_out():
+    """The usual frames, against the layouts that the other tests use."""
+    pairs = [
+        ("auth-request", bench.authentication(OWN, PEER)),
+        ("assoc-request", bench.association_request(OWN, PEER)),
+        (f"reassoc-request current-ap={OTHER}", bench.reassociation_request(OWN, PEER, OTHER)),
+        ("deauth", bench.deauthentication(OWN, PEER)),
+        ("disassoc", bench.disassociation(OWN, PEER)),
+        ("data", bench.data(OWN, PEER)),
+        ("qos-data", bench.data(OWN, PEER, b"\0\0", subtype=8)),
+        ("rts", bench.control(bench.RTS, OWN, PEER)),
+        ("auth-request length=29", bench.authentication(OWN, PEER)[:29]),
+    ]
+    elements = bench.timeout_interval(5) + b"\xdd\0"
+    response = bench.association_response(OWN, PEER, 17, 0, elements=elements)
+    at_station = event(f"frame assoc-response from={PEER} status=17 comeback=5 elements=dd00",
+                       f"station own={OWN}")
+    faults = [] if at_station.frame == response else ["assoc-response at a station"]
+    rsna = event(f"frame assoc-request from={PEER}", f"ap own={OWN} rsna=1")
+    if rsna.frame != bench.association_request(OWN, PEER, capability=0x0011):
+        faults.append("assoc-request where RSNA is required")
+    return faults + [f"frame {words}" for words, octets in pairs
+                     if event(f"frame {words} from={PEER}").frame != octets]
+
+
+def primitives_by_word_and_number():
+    """A primitive by its word is the one by its number, with the code by either name."""
+    faults = []
+    for at, (word, code) in enumerate(PRIMITIVES, 1):
+        wanted = bench.primitive(at, PEER, 1)
+        for line in (f"prim {word} {PEER} {code}=1", f"prim {at} {PEER} {code}=1",
+                     f"prim {word} {PEER} code=1"):
+            if event(line).record != wanted:
+                faults.append(line)
+    return faults + ([] if len(PRIMITIVES) == len(primitives.TABLE) else ["more primitives"])
+
+
+def odd_answers_are_told():
+    """A bench program that prints what it never should, or can't be run, is a fault with a line."""
+    line, place = "1 0 - 0 0 0 - 0\n", "  place 0 02000000000a 1 0 0 0\n"
+    wanted = [("stop\n", "the bench program printed 'stop', which is no line of its trace"),
+              (place + line, f"the bench program printed '{place[:-1]}', which is no line of its trace"),
+              ("", "the bench program gave 0 answers to 1 events"),
+              (line + line, "the bench program gave 2 answers to 1 events")]
+    faults = []
+    for printed, said in wanted:
+        try:
+            answers.read(printed, 1)
+            faults.append(f"taken: {printed}")
+        except answers.BenchFault as fault:
+            faults += [] if str(fault) == said else [str(fault)]
+    try:
+        answers.run(["/no/such/program"], b"")
+        faults.append("ran a program that is not there")
+    except answers.BenchFault as fault:
+        said = "/no/such/program can't be run: No such file or directory"
+        faults += [] if str(fault) == said else [str(fault)]
+    return faults
+
+
+def faults_are_told():
+    """Each wrong scenario gets its one line, nothing else, and status 1."""
+    faults = []
+    with tempfile.TemporaryDirectory() as folder:
+        file = pathlib.Path(folder) / "wrong.scenario"
+        for text, at, said in all_wrong():
+            file.write_text(text)
+            done = subprocess.run([str(ROOT / "scenario"), "--octets", str(file)],
+                                  capture_output=True, text=True)
+            line = f"{file}:{at}: {said}\n"
+            if (done.returncode, done.stdout, done.stderr) != (1, "", line):
+                faults.append(f"expected {line}  got {done.returncode} {done.stdout}{done.stderr}")
+    return faults
+
+
+def command_line_faults():
+    """Wrong uses of the command get one line that says how it is used."""
+    usage = "scenario [--table | --lines | --octets] FILE, or scenario --help"
+    wanted = [([], f"no files given, one is wanted: {usage}"),
+              (["a", "b"], f"2 files given, one is wanted: {usage}"),
+              (["--tables", "a"], f"unknown option '--tables': {usage}"),
+              (["--table", "--lines", "a"], f"--table and --lines do not go together: {usage}"),
+              (["no-such-file"], "no-such-file: No such file or directory"),
+              (["/"], "/: Is a directory"),
+              ([sys.executable], f"{sys.executable}: not a text in UTF-8, so no scenario")]
+    faults = []
+    for words, said in wanted:
+        done = subprocess.run([str(ROOT / "scenario")] + words, capture_output=True, text=True)
+        if (done.returncode, done.stdout, done.stderr) != (1, "", f"scenario: {said}\n"):
+            faults.append(f"{words}: {done.returncode} {done.stderr}")
+    return faults
+
+
+def help_is_whole():
+    """Each word, field and primitive stands in the help, and --help prints it."""
+    done = subprocess.run([str(ROOT / "scenario"), "--help"], capture_output=True, text=True)
+    words = list(frame_words.BY_WORD) + list(frame_words.FIELDS) + list(primitives.BY_WORD)
+    missing = [word for word in words if f"  {word}" not in done.stdout]
+    return missing + ([] if done.stdout == manual.text() else ["--help prints something else"])
+
+
+def main():
+    tests = (words_cover_classes, frames_round_trip, generated_frames_round_trip,
+             frames_as_laid_out, help_is_whole, primitives_by_word_and_number,
+             odd_answers_are_told, faults_are_told, command_line_faults)
+    failed = 0
+    for test in tests:
+        faults = test()
+        failed += bool(faults)
+        for fault in faults:
+            print(f"{test.__name__}: {fault}")
+    print(f"{len(tests) - failed} tests passed, {failed} failed; {len(all_wrong())} wrong scenarios")
+    sys.exit(1 if failed else 0)
+
+
+if __name__ == "__main__":
+    main()
