@@ -39,10 +39,11 @@ def event(line, first=f"ap own={OWN}"):
 def classes():
     """The proved table of classes, read from the code: type, subtype and class of each that has one."""
     code = (ROOT / "crates/octets/src/class.rt").read_text()
-    body = re.search(r"const CLASSES: \[u8; 64\] = \[(.*?)\];", code, re.DOTALL)[1]
-    numbers = [int(text) for text in re.findall(r"\d+", re.sub(r"//.*", "", body))]
-    assert len(numbers) == 64, "the table of classes has 64 entries"
-    return {(at // 16, at % 16, number) for at, number in enumerate(numbers) if number}
+    body = re.search(r"const CLASSES: \[FrameClass; 64\] = \[(.*?)\];", code, re.DOTALL)[1]
+    named = re.findall(r"FrameClass::(\w+),", body)
+    assert len(named) == 64, "the table of classes has 64 entries"
+    numbers = {"One": 1, "Two": 2, "Three": 3}
+    return {(at // 16, at % 16, numbers[name]) for at, name in enumerate(named) if name != "None"}
 
 
 def words_cover_classes():
