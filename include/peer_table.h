@@ -67,7 +67,8 @@ enum {
     PEER_DONE = 0,
     PEER_REFUSED_BUFFER = 1,   /* out is too short */
     PEER_REFUSED_TABLE = 2,    /* settings or table not well formed */
-    PEER_REFUSED_INPUT = 3,    /* unknown primitive; code, clock step or peer address not allowed; frame too short or too long */
+    PEER_REFUSED_INPUT = 3,    /* unknown primitive; code, clock step or peer address not allowed; frame too short or too long, its
+                                  Address 2 invalid or our own, or a (re)association response whose elements do not end with it */
     PEER_REFUSED_FOREIGN = 4,  /* the frame is neither for us nor for a group */
     PEER_REFUSED_ROLE = 5,     /* the primitive is for the other role */
     PEER_REFUSED_FULL = 6,     /* no place is free for a new record */

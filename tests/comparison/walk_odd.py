@@ -2,7 +2,7 @@
 
 from tools import bench_input as bench
 
-from .walk import FOREIGN, GROUPS
+from .walk import FOREIGN, GROUPS, SENT
 
 STRANGERS = (bench.address("02:00:00:00:02:01"), bench.address("fe:ff:ff:ff:ff:ff"))
 LEAST_MANAGEMENT = {bench.AUTHENTICATION: 30, bench.ASSOCIATION_REQUEST: 28,
@@ -14,6 +14,12 @@ FIXED_LENGTHS = (0, 1, 2, 9, 10, 11, 15, 16, 17, 23, 24, 25, 26, 28, 30, 34, 40)
 # rejection with a comeback of 2, and a shower of octets.
 FILLS = (b"\0", b"\0\0\1\0\0\0", b"\0\0\2\0\0\0", b"\1\0\0\0\1\xc0",
          b"\1\0\x11\0\0\0\x38\5\3\2\0\0\0", b"\x38\5\3\xff\7\1\0\x80\xfe\x5a\2")
+# Ends that break the elements before them: one octet left over, or an element that passes the
+# frame's end by one octet or by more.
+BROKEN_ENDS = (b"\x38", b"\0", b"\xff", b"\x38\5", b"\0\1", b"\x38\5\3\0", b"\x38\5\3\1\0\0",
+               b"\x38\4\3\0\0", bench.timeout_interval(0) + b"\x38\5\3",
+               bench.element(221, b"\x38\5\3\0\0\0\0", length=8),
+               bench.element(221, b"\x38\5\3\0\0\0\0", length=255))
 CODES = (0, 1, 2, 17, 256, 65535)
 SINGLE_CODE = (1, 4, 5, 9)
 ANY_BUT_ZERO = (3, 6)
@@ -25,9 +31,8 @@ def least_length(kind, subtype):
     return LEAST_MANAGEMENT.get(subtype, 24) if kind == bench.MANAGEMENT else 24
 
 
-def odd_elements(dice, whole=False):
-    """A few elements without a good comeback. Unless they are to be whole, the last may be cut
-    short or be a single octet; then nothing after it can be found."""
+def whole_elements(dice):
+    """A few elements without a good comeback; they end where their lengths say."""
     parts = []
     for _ in range(dice.below(4)):
         parts.append(dice.of((
@@ -38,12 +43,27 @@ def odd_elements(dice, whole=False):
             bench.element(dice.of((0, 1, 55, 57, 221, 255)), b"\x38\5\3\1\0\0\0"),
             bench.element(dice.below(56), dice.octets(dice.below(20))),
             bench.element(5, b"\3\1\0\0\0"))))
-    if not whole:
-        parts.append(dice.of((
-            b"", b"", b"\x38", b"\0", b"\x38\5", b"\x38\5\3\0", b"\x38\5\3\1\0\0",
-            bench.element(221, b"\x38\5\3\0\0\0\0", length=255), b"\x38\4\3\0\0",
-            bench.timeout_interval(6), bench.timeout_interval(0) + b"\x38\5\3")))
     return b"".join(parts)
+
+
+def odd_elements(dice):
+    """Whole elements, or with an end that breaks them."""
+    return whole_elements(dice) + (dice.of(BROKEN_ENDS) if dice.chance(50) else b"")
+
+
+def odd_response(walk, peer):
+    """A (re)association response that nobody waits for, or one octet too long or too short for its
+    elements: in either role, in any state, now and then to or from a bad address."""
+    dice = walk.dice
+    make = dice.of((bench.association_response, bench.reassociation_response))
+    receiver = dice.weighted(((70, walk.own), (20, dice.of(GROUPS)), (10, dice.of(FOREIGN))))
+    sender = dice.weighted(((88, peer.address), (4, dice.of(STRANGERS)), (3, walk.own),
+                            (3, dice.of(GROUPS)), (2, bench.ZERO)))
+    elements = whole_elements(dice)
+    octets = make(receiver, sender, dice.of((0, 0, 17, 30)), dice.of((0xC001, 1, 0)), elements=elements)
+    if dice.chance(50) or peer.busy_with(SENT):
+        octets = octets[:-1] if elements and dice.chance(60) else octets + dice.octets(1)
+    walk.hear(octets)
 
 
 def odd_frame(walk, peer):

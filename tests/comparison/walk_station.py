@@ -3,9 +3,9 @@
 from tools import bench_input as bench
 
 from .walk import (ASSOCIATION, AUTHENTICATION, LONGEST_STEP, REASSOCIATION, SENT, USUAL_HOLD,
-                   fall_by_frame, fall_by_primitive, let_time_pass, protect, repeat,
-                   send_data)
-from .walk_odd import odd_elements, odd_frame, odd_primitive
+                  fall_by_frame, fall_by_primitive, let_time_pass, protect, repeat,
+                  send_data)
+from .walk_odd import BROKEN_ENDS, odd_frame, odd_primitive, odd_response, whole_elements
 
 RESPONSES = {ASSOCIATION: bench.association_response, REASSOCIATION: bench.reassociation_response}
 AIDS = (0x0001, 0x4001, 0x8001, 0xC001, 2007, 0xC000 | 2007, 2)
@@ -51,11 +51,17 @@ def hear_authentication(walk, peer):
             peer.state = 2
 
 
+def broken_end(dice):
+    """One response in six has elements that do not end with the frame."""
+    return dice.of(BROKEN_ENDS) if dice.chance(16) else b""
+
+
 def hear_success(walk, peer, kind):
     aid = walk.dice.of(AIDS if walk.dice.chance(80) else BAD_AIDS)
-    elements = b"" if walk.dice.chance(90) else odd_elements(walk.dice)
-    walk.hear(RESPONSES[kind](walk.own, peer.address, 0, aid, elements=elements))
-    if not peer.busy_with(SENT, (kind,)) or aid in BAD_AIDS:
+    elements = b"" if walk.dice.chance(70) else whole_elements(walk.dice)
+    broken = broken_end(walk.dice)
+    walk.hear(RESPONSES[kind](walk.own, peer.address, 0, aid, elements=elements + broken))
+    if not peer.busy_with(SENT, (kind,)) or aid in BAD_AIDS or broken:
         return
     current = walk.associated()
     if current is not None:
@@ -65,7 +71,7 @@ def hear_success(walk, peer, kind):
 
 
 def hear_rejection(walk, peer, kind):
-    """With no element, a good one, a good one among odd ones, or only odd ones."""
+    """With no element, a good one, a good one among odd ones, or only odd ones; or broken."""
     dice = walk.dice
     hold = LONGEST_HOLD if dice.chance(2) else dice.of(COMEBACKS)
     good = bench.timeout_interval(hold)
@@ -73,14 +79,14 @@ def hear_rejection(walk, peer, kind):
     if shape == 0:
         elements, hold = b"", USUAL_HOLD
     elif shape == 1:
-        elements, hold = odd_elements(dice), USUAL_HOLD
+        elements, hold = whole_elements(dice), USUAL_HOLD
     elif shape == 2:
         elements = good
     else:
-        elements = odd_elements(dice, whole=True) + good + odd_elements(dice)
-    aid = dice.of(AIDS + BAD_AIDS)
-    walk.hear(RESPONSES[kind](walk.own, peer.address, dice.of(REJECTIONS), aid, elements=elements))
-    if peer.busy_with(SENT, (kind,)):
+        elements = whole_elements(dice) + good + whole_elements(dice)
+    aid, status, broken = dice.of(AIDS + BAD_AIDS), dice.of(REJECTIONS), broken_end(dice)
+    walk.hear(RESPONSES[kind](walk.own, peer.address, status, aid, elements=elements + broken))
+    if peer.busy_with(SENT, (kind,)) and not broken:
         peer.end_exchange()
         peer.state, peer.hold = 2, hold
 
@@ -129,7 +135,7 @@ def go_on(walk, peer):
 MOVES = ((53, go_on), (5, send_data), (3, repeat), (4, ask_to_join), (3, ask_authentication),
          (2, hear_response), (2, hear_authentication), (3, fall_by_frame),
          (2, fall_by_primitive), (1, protect), (5, let_time_pass),
-         (11, odd_frame), (6, odd_primitive))
+         (9, odd_frame), (2, odd_response), (6, odd_primitive))
 
 
 def longest_hold(walk):

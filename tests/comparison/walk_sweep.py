@@ -9,6 +9,7 @@ from .walk_odd import FILLS, LEAST_MANAGEMENT, least_length
 # Each sweep's role, RSNA and state; State 3 is reached where RSNA is required.
 SWEEPS = tuple((role, rsna, state) for role in (bench.ACCESS_POINT, bench.STATION)
                for rsna, state in ((0, 0), (0, 1), (1, 2), (1, 3), (0, 4)))
+RESPONSES = (bench.ASSOCIATION_RESPONSE, bench.REASSOCIATION_RESPONSE)
 PRIMITIVES = tuple(range(12))
 CODES = (0, 1, 2, 65535)
 
@@ -42,13 +43,14 @@ def reach_at_station(walk, peer, state):
 
 def sweep_frames(walk, peer, reach):
     """Only the kinds with fields of their own can change the state; after those it is reached
-    anew."""
+    anew. A response has two lengths more, for an element or two."""
     for kind in range(4):
         for subtype in range(16):
             least = least_length(kind, subtype)
             acting = kind == bench.MANAGEMENT and subtype in LEAST_MANAGEMENT
+            longer = (2, 7) if acting and subtype in RESPONSES else ()
             for receiver in (walk.own, GROUPS[0], FOREIGN[0]):
-                for length in (least - 1, least, least + 1):
+                for length in [least + more for more in (-1, 0, 1) + longer]:
                     walk.hear(bench.any_frame(kind, subtype, receiver, peer.address, length,
                                               walk.dice.of(FILLS)))
                     if acting and length >= least and receiver != FOREIGN[0]:

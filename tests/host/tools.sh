@@ -3,7 +3,8 @@
 # shellcheck shell=bash disable=SC2034
 
 warnings="-std=c11 -Wall -Wextra -Wpedantic -Wconversion -Wshadow -Werror"
-independent="tests/independent/ask.c tests/independent/receive.c tests/independent/table.c" # all but its program
+# The independent program, all but its own main.
+independent="tests/independent/ask.c tests/independent/elements.c tests/independent/receive.c tests/independent/table.c"
 if [ "$(uname -m)" = x86_64 ]; then
     x86_cc=cc x86_run='' x86_prefix=''
 else

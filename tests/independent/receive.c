@@ -32,6 +32,11 @@ static bool is_request(unsigned subtype)
     return subtype == PT_ASSOC_REQUEST || subtype == PT_REASSOC_REQUEST;
 }
 
+static bool is_response(unsigned subtype)
+{
+    return subtype == PT_ASSOC_RESPONSE || subtype == PT_REASSOC_RESPONSE;
+}
+
 /* True where the peer's record has sent an exchange of this kind. */
 static bool has_sent(const struct pt_step *t, uint8_t kind)
 {
@@ -123,20 +128,6 @@ static void association_request(struct pt_step *t, uint8_t kind, const uint8_t *
         t->a.current = pt_get48(frame + 28);
 }
 
-/* The hold after a refused (re)association: the value of the first element of id 56, length 5 and
-   type 3, else 2 s. The walk from octet 30 ends at an element that would pass the end. */
-static uint32_t comeback(const uint8_t *frame, size_t len)
-{
-    size_t at = 30;
-
-    while (len - at >= 2 && len - at - 2 >= frame[at + 1]) {
-        if (frame[at] == 56 && frame[at + 1] == 5 && frame[at + 2] == 3)
-            return pt_get32(frame + at + 3);
-        at += 2u + frame[at + 1];
-    }
-    return PT_HOLD_USUAL;
-}
-
 /* (Re)association response at a station that has sent the matching exchange. Success with an AID
    outside 1 to 2007 does nothing; other success associates with this AP alone; any other status
    sets State 2 and a hold. */
@@ -151,7 +142,7 @@ static void association_response(struct pt_step *t, uint8_t kind, const uint8_t 
     notify(t, kind * 2u + 2, status);
     if (status != 0) {
         pt_move(t, 2);
-        t->record->hold = comeback(frame, len);
+        t->record->hold = pt_comeback(frame, len);
         return;
     }
     if (t->view.joined >= 0)
@@ -240,6 +231,9 @@ struct pt_answer pt_receive(const struct pt_settings *s, struct pt_record *table
     if (type == CONTROL && (subtype == CTS || subtype == ACK))
         return (struct pt_answer){ .verdict = PT_ADMIT };
     if (!pt_valid(peer) || peer == s->own)
+        return pt_refuse(PT_BAD_INPUT);
+    /* In either role, whatever the peer's state: a broken response is not half believed. */
+    if (type == MANAGEMENT && is_response(subtype) && !pt_elements_whole(frame, frame_len))
         return pt_refuse(PT_BAD_INPUT);
 
     struct pt_step t = pt_begin(s, table, &view, peer, out);

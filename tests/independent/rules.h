@@ -121,6 +121,10 @@ void pt_write_request(struct pt_step *t, uint8_t kind, uint64_t current);
 void pt_write_response(struct pt_step *t, uint8_t kind, uint16_t status, uint16_t aid);
 void pt_write_reason(struct pt_step *t, enum pt_subtype subtype, uint16_t reason);
 
+/* The elements of a (re)association response of 30 octets or more; a comeback is of whole ones. */
+bool pt_elements_whole(const uint8_t *frame, size_t len);
+uint32_t pt_comeback(const uint8_t *frame, size_t len);
+
 static inline struct pt_answer pt_refuse(enum pt_refusal number)
 {
     return (struct pt_answer){ .refusal = (uint8_t)number };

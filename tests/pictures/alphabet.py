@@ -1,7 +1,8 @@
 """The alphabet of events: every frame kind, primitive and clock step, and the name of its cause.
 
 Events of one name must do the same to a state, so the names are as fine as the rules: the status
-is 0 or not, the AID is in range or not, a frame is to our own address or to a group.
+is 0 or not, the AID is in range or not, the elements end with the frame or not, a frame is to our
+own address or to a group.
 """
 
 import collections
@@ -75,6 +76,8 @@ def responses(to, about):
             elements = b"" if comeback is None else bench.timeout_interval(comeback)
             octets = make(to, about, status, 0, elements=elements)
             yield f"{kind} response, status not 0", octets, comeback
+        for status, elements in ((0, b"\0"), (17, b"\x38\5\3\0"), (30, bench.timeout_interval(0)[:-1])):
+            yield f"{kind} response, broken elements", make(to, about, status, elements=elements), None
 
 
 def requests(to, about):

@@ -22,6 +22,7 @@ EXAMPLES = ROOT / "examples"
 GOOD = "ap own=02:00:00:00:00:01"
 SETTINGS = "the settings are not well formed"
 ASKED = "unknown primitive, peer address invalid or our own, or code not allowed"
+HEARD = "too short, Address 2 is invalid or our own, or a response whose elements do not end with it"
 REFUSED = [
     (f"{GOOD} rsna=2", "clock 1", 2, SETTINGS), (f"{GOOD} timeouts=0,1", "clock 1", 2, SETTINGS),
     (f"{GOOD} timeouts=1,0", "frame ack", 2, SETTINGS), ("ap own=broadcast", "clock 1", 2, SETTINGS),
@@ -31,7 +32,9 @@ REFUSED = [
     (GOOD, "prim report 02:00:00:00:00:0a acknowledged=2", 3, ASKED),
     (GOOD, "prim deauthenticate 02:00:00:00:00:0a reason=0", 3, ASKED),
     (GOOD, "prim authenticate 02:00:00:00:00:0a", 5, "this primitive is not for an AP"),
-    (GOOD, "frame raw b0 00*8", 3, "too short, or Address 2 is invalid or our own"),
+    (GOOD, "frame raw b0 00*8", 3, HEARD),
+    (GOOD, "frame assoc-response from=02:00:00:00:00:0a elements=38050300", 3, HEARD),
+    (GOOD, "frame reassoc-response from=02:00:00:00:00:0a to=broadcast length=31", 3, HEARD),
 ]
 # A block that tells what an event did: a line of a scenario, and a number below it.
 TOLD = re.compile(r"^(prim|frame|clock) .*\n    [0-9]+  ", re.MULTILINE)

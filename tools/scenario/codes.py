@@ -46,7 +46,8 @@ REFUSALS = {
     9: "an exchange is already under way",
 }
 REFUSAL_3 = {
-    "frame": "too short, or Address 2 is invalid or our own",
+    "frame": "too short, Address 2 is invalid or our own, or a response whose elements do not end "
+             "with it",
     "prim": "unknown primitive, peer address invalid or our own, or code not allowed",
     "clock": "a clock step is at least 1 TU",
 }

@@ -64,7 +64,7 @@ ALL_FIELDS = [
     Field("aid-field", "number", 0xFFFF, "the AID's field with all 16 bits, in place of aid"),
     Field("reason", "number", 0xFFFF, "3 of a deauth and 8 of a disassoc if not given"),
     Field("comeback", "number", 0xFFFFFFFF, "Timeout Interval element, type 3, with this time in TU"),
-    Field("elements", "octets", 0, "further octets behind the fixed fields, hexadecimal"),
+    Field("elements", "octets", 0, "further octets behind the fixed fields: 38050300 is a cut element"),
     Field("body", "octets", 0, "the octets behind the header, hexadecimal"),
     Field("to-ds", "number", 1, "1 of a data frame to an AP, else 0, if not given"),
     Field("from-ds", "number", 1, "1 of a data frame to a station, else 0, if not given"),

@@ -13,7 +13,7 @@ use lib.ListN.{length, getD, drop, length-drop, drop-of-length-le}
 use lib.Seq.{drop-cons, drop-drop}
 use Rattle.octets.specs.Pick.{pick}
 use Rattle.octets.specs.Field.{field}
-use Rattle.octets.specs.Element.{walk, wantedAt}
+use Rattle.octets.specs.Element.{ends, walk, wantedAt}
 use Rattle.octets.proofs.Branch.{and-left, and-right}
 use Rattle.octets.specs.declared.element.Comeback.the-variants.{Given, Absent}
 
@@ -64,3 +64,38 @@ module _ (s : List ℕ) (at : ℕ) where
 -- A wanted element has length 5.
 pub wanted-five : (xs : List ℕ) (n : ℕ) → wantedAt xs n ≡ true → n ≡ 5
 wanted-five xs n t = eqb-true n 5 (and-left (eqb n 5) (eqb (getD xs 2 0) 3) (and-right (eqb (getD xs 0 0) 56) (eqb n 5 && eqb (getD xs 2 0) 3) t))
+
+-- ---- whether the walk reaches the end exactly
+
+pub ends-skip : (xs : List ℕ) (k : ℕ) → k ≤ length xs → ends xs k ≡ ends (drop k xs) 0
+unfolding ends
+ends-skip [] zero h = refl
+ends-skip [] (suc k) h = absurd (omega arith)
+ends-skip (x ∷ xs) zero h = refl
+ends-skip (x ∷ xs) (suc k) h = ends-skip xs k (omega arith)
+
+ends-over : (xs : List ℕ) (k : ℕ) → length xs < k → ends xs k ≡ false
+unfolding ends
+ends-over [] zero h = absurd (omega arith)
+ends-over [] (suc k) h = refl
+ends-over (x ∷ xs) zero h = absurd (omega arith)
+ends-over (x ∷ xs) (suc k) h = ends-over xs k (omega arith)
+
+ends-cons : (x n : ℕ) (rest : List ℕ) → ends (x ∷ n ∷ rest) 0 ≡ ends rest n
+unfolding ends
+ends-cons x n rest = refl
+
+module _ (s : List ℕ) (at : ℕ) where
+  pub ends-end : length s ≤ at → true ≡ ends (drop at s) 0
+  unfolding ends
+  ends-end h = rw (drop-of-length-le s h)
+
+  pub ends-one : at < length s → length s - at < 2 → false ≡ ends (drop at s) 0
+  unfolding ends
+  ends-one h k = rw (drop-cons s at 0 h, drop-of-length-le s {i = suc at} (omega arith))
+
+  pub ends-cut : at + 2 ≤ length s → length s - at - 2 < getD s (at + 1) 0 → false ≡ ends (drop at s) 0
+  ends-cut h k = rw (two s at h, ends-cons, ends-over (drop (at + 2) s) (getD s (at + 1) 0) (simp length-drop (omega arith)))
+
+  pub ends-next : at + 2 + getD s (at + 1) 0 ≤ length s → ends (drop (at + 2 + getD s (at + 1) 0) s) 0 ≡ ends (drop at s) 0
+  ends-next h = rw (two s at (omega arith), ends-cons, ends-skip (drop (at + 2) s) (getD s (at + 1) 0) (simp length-drop (omega arith)), drop-drop)

@@ -1,9 +1,10 @@
 -- Worked examples of the definitions, computed.
 -- Assumes nothing.
 use mathlib.Core.Path.{_≡_, refl}
+use mathlib.Core.Bool.{true, false}
 use mathlib.Core.List.{[], _∷_}
 use Rattle.octets.specs.Field.{octets}
-use Rattle.octets.specs.Element.{walk}
+use Rattle.octets.specs.Element.{ends, walk}
 use Rattle.octets.specs.Frame.{aidField, headOf, bodyOf, bytesOf}
 use Rattle.octets.specs.declared.element.Comeback.the-variants.{Given, Absent}
 use Rattle.octets.specs.declared.frame.Body.the-variants.{Response, Reason}
@@ -22,6 +23,19 @@ comeback-cut = refl
 comeback-third : walk (56 ∷ 5 ∷ 1 ∷ 9 ∷ 9 ∷ 9 ∷ 9 ∷ 56 ∷ 1 ∷ 3 ∷ 56 ∷ 5 ∷ 3 ∷ 0 ∷ 1 ∷ 0 ∷ 0 ∷ 7 ∷ []) 0 ≡ Given 256
 unfolding walk
 comeback-third = refl
+
+-- 02, K7: whole elements end with the frame; a cut one does not, nor does an id alone.
+whole-ends : ends (1 ∷ 1 ∷ 9 ∷ 56 ∷ 5 ∷ 3 ∷ 0 ∷ 0 ∷ 0 ∷ 0 ∷ []) 0 ≡ true
+unfolding ends
+whole-ends = refl
+
+cut-passes : ends (56 ∷ 5 ∷ 3 ∷ 0 ∷ []) 0 ≡ false
+unfolding ends
+cut-passes = refl
+
+id-alone : ends (0 ∷ 0 ∷ 7 ∷ []) 0 ≡ false
+unfolding ends
+id-alone = refl
 
 deauthentication-written :
     bytesOf (record { subtype = 12; address1 = 0x060504030202; address2 = 0x0a; address3 = 0x0a; body = Reason 7 })

@@ -8,6 +8,7 @@ use mathlib.Core.List.{List, [], _∷_, _++_}
 use lib.Dec.{ltb, leb, eqb}
 use lib.ListN.{length}
 use Rattle.octets.specs.Address.{validOf}
+use Rattle.octets.specs.Element.{brokenOf}
 use Rattle.octets.specs.Field.{field}
 use Rattle.octets.specs.Class.{classOf, classless}
 use Rattle.octets.specs.Shape.{isBare, leastOf}
@@ -55,13 +56,15 @@ abbrev pub goesOn : List ℕ → Bool
 goesOn xs = not (classless (classOf xs))
 
 -- A received frame, 1 to 5: "Under 10 or over 4,096 bytes: 3"; "Below its least length: 3"; "Address 1 (octets 4-9) foreign: 4"; where it
--- is neither CTS nor ACK, "Address 2 (octets 10-15) invalid or own: 3".
+-- is neither CTS nor ACK, "Address 2 (octets 10-15) invalid or own: 3". 02, K7, behind it: a (re)association response "whose elements do not end with
+-- the frame".
 abbrev pub readRefusals : ℕ → List ℕ → List (ℕ × Bool)
 readRefusals own xs =
     (3, ltb (length xs) 10 || ltb 4096 (length xs))
     ∷ (3, goesOn xs && ltb (length xs) (leastOf (field 1 0 xs)))
     ∷ (4, goesOn xs && not (forUs own (field 6 4 xs)))
     ∷ (3, goesOn xs && (not (isBare (field 1 0 xs)) && (eqb (field 6 10 xs) own || not (validOf (field 6 10 xs)))))
+    ∷ (3, goesOn xs && (not (isBare (field 1 0 xs)) && brokenOf xs))
     ∷ []
 
 -- A received frame, lent a buffer of n octets: "Refusals 1, 2", then as above.

@@ -183,14 +183,18 @@ nineSteps =
 abbrev pub associateSent : Line
 associateSent = asks 4 0 256 (0 ∷ 0 ∷ 0 ∷ 0 ∷ 28 ∷ 0 ∷ 2 ∷ 0 ∷ []) (saidStation 0x00 (0x01 ∷ 0 ∷ 10 ∷ 0 ∷ []))
 
--- A station authenticates, asks to associate, and hears status 17 with these elements.
-abbrev pub turnedAway : List ℕ → List Line → List Line
-turnedAway elements then =
+-- A station authenticates and asks to associate.
+abbrev pub asksFirst : List Line → List Line
+asksFirst then =
     asks 1 0 256 (0 ∷ 0 ∷ 0 ∷ 0 ∷ 30 ∷ 0 ∷ 1 ∷ 0 ∷ []) (saidStation 0xb0 (0 ∷ 0 ∷ 1 ∷ 0 ∷ 0 ∷ 0 ∷ []))
     ∷ hears authenticationResponse 256 (0 ∷ 1 ∷ 2 ∷ 0 ∷ 0 ∷ 0 ∷ 2 ∷ 0 ∷ []) []
     ∷ associateSent
-    ∷ hears (refusedAssociation elements) 256 (0 ∷ 1 ∷ 6 ∷ 17 ∷ 0 ∷ 0 ∷ 2 ∷ 0 ∷ []) []
     ∷ then
+
+-- It hears status 17 with these elements.
+abbrev pub turnedAway : List ℕ → List Line → List Line
+turnedAway elements then =
+    asksFirst (hears (refusedAssociation elements) 256 (0 ∷ 1 ∷ 6 ∷ 17 ∷ 0 ∷ 0 ∷ 2 ∷ 0 ∷ []) [] ∷ then)
 
 -- "status 17, no element: after 1,953 TU primitive 4 is refused 8, after one more it sends"
 abbrev pub houseTime : Case
@@ -218,14 +222,18 @@ zeroTime =
       after = peerIn 2 (exchange.Sent kind.Association) 100 0 ∷ [];
     }
 
--- "elements `38 05 03 00` cut short: hold 1,954"
+-- "elements `38 05 03 00` cut short", amended by 02, K7: refusal 3; the exchange goes on and there is no hold, so primitive 4 is 9.
 abbrev pub cutShort : Case
 cutShort =
     record {
       settings = asStation;
       before = [];
-      lines = turnedAway (0x38 ∷ 0x05 ∷ 0x03 ∷ 0x00 ∷ []) [];
-      after = peerIn 2 exchange.None 0 1954 ∷ [];
+      lines =
+          asksFirst
+          (hears (refusedAssociation (0x38 ∷ 0x05 ∷ 0x03 ∷ 0x00 ∷ [])) 256 (3 ∷ 0 ∷ 0 ∷ 0 ∷ 0 ∷ 0 ∷ 0 ∷ 0 ∷ []) []
+          ∷ asks 4 0 256 (9 ∷ 0 ∷ 0 ∷ 0 ∷ 0 ∷ 0 ∷ 0 ∷ 0 ∷ []) []
+          ∷ []);
+      after = peerIn 2 (exchange.Sent kind.Association) 100 0 ∷ [];
     }
 
 -- "buffer 33 refused, 34 taken": a frame, then a primitive.

@@ -6,6 +6,7 @@ use mathlib.Core.List.{List}
 use lib.Dec.{eqb}
 use Rattle.octets.specs.Pick.{pick}
 use Rattle.octets.specs.Address.{validOf, groupOf}
+use Rattle.octets.specs.Element.{brokenOf}
 use Rattle.octets.specs.Field.{field}
 use Rattle.octets.specs.Class.{classOf}
 use Rattle.octets.specs.Heard.{heardOf}
@@ -23,8 +24,10 @@ forUs own to = eqb to own || groupOf to
 unfoldable pub readBare : ℕ → List ℕ → Reading
 readBare own xs = pick (forUs own (field 6 4 xs)) Admitted (Refused 4)
 
+-- 02, K7: "A (re)association response, at either role, whose elements do not end with the frame is refused. .. Refusals: 3, given after Address 2
+-- has been checked and before the class."
 unfoldable pub readFrom : ℕ → ℕ → List ℕ → Reading
-readFrom peer to xs = From peer (groupOf to) (classOf xs) (heardOf xs)
+readFrom peer to xs = pick (brokenOf xs) (Refused 3) (From peer (groupOf to) (classOf xs) (heardOf xs))
 
 -- 4., then 5. "Address 2 (octets 10-15) invalid or own: 3. It names the peer."
 unfoldable pub readFull : ℕ → List ℕ → Reading

@@ -11,8 +11,11 @@ use lib.ListN.{length}
 use borrow.Author.Tests.{not-true}
 use Rattle.octets.proofs.Branch.{and-left, and-right}
 use Rattle.octets.specs.Pick.{pick}
-use Rattle.octets.specs.Address.{validOf}
+use Rattle.octets.specs.Address.{groupOf, validOf}
+use Rattle.octets.specs.Class.{classOf}
+use Rattle.octets.specs.Element.{brokenOf}
 use Rattle.octets.specs.Field.{field}
+use Rattle.octets.specs.Heard.{heardOf}
 use Rattle.octets.specs.Shape.{shapeOf}
 use Rattle.octets.specs.Frame.{longest}
 use Rattle.octets.specs.declared.shape.Shape.{Shape}
@@ -22,7 +25,7 @@ use Rattle.peer.specs.declared.settings.Settings.{Settings}
 use Rattle.table.specs.Read.{forUs, readBare, readFrom, readFull, readAs, readOf}
 use Rattle.table.specs.Ask.{mayAsk}
 use Rattle.table.specs.Order.{Coming, frame, primitive, Handed, readPeer, comingPeer, peerNamed}
-use Rattle.table.specs.declared.rules.read.Reading.the-variants.{Refused, Admitted}
+use Rattle.table.specs.declared.rules.read.Reading.the-variants.{Refused, Admitted, From}
 
 -- an event that names nobody names no peer
 pub nobody : {P : Type 0} {a : ℕ} → none ≡ some a → P
@@ -35,13 +38,16 @@ valid-some a v = not-true (eqb a 0) (and-left (not (eqb a 0)) (leb a 28147497671
 
 full-some : (own : ℕ) (xs : List ℕ) (a : ℕ) → readPeer (readFull own xs) ≡ some a → eqb a 0 ≡ false
 unfolding readFull readFrom
-full-some own xs a e = go (not (forUs own (field 6 4 xs))) (eqb (field 6 10 xs) own) (validOf (field 6 10 xs)) refl e
+full-some own xs a e = go (not (forUs own (field 6 4 xs))) (eqb (field 6 10 xs) own) (validOf (field 6 10 xs)) (brokenOf xs) refl e
   where
-    go : (f o v : Bool) → validOf (field 6 10 xs) ≡ v → readPeer (pick f (Refused 4) (pick (o || not v) (Refused 3) (readFrom (field 6 10 xs) (field 6 4 xs) xs))) ≡ some a → eqb a 0 ≡ false
-    go true o v q w = nobody w
-    go false true v q w = nobody w
-    go false false false q w = nobody w
-    go false false true q w = let p : field 6 10 xs ≡ a = cc in valid-some a (rw p at q)
+    go : (f o v b : Bool) → validOf (field 6 10 xs) ≡ v
+        → readPeer (pick f (Refused 4) (pick (o || not v) (Refused 3) (pick b (Refused 3) (From (field 6 10 xs) (groupOf (field 6 4 xs)) (classOf xs) (heardOf xs))))) ≡ some a
+        → eqb a 0 ≡ false
+    go true o v b q w = nobody w
+    go false true v b q w = nobody w
+    go false false false b q w = nobody w
+    go false false true true q w = nobody w
+    go false false true false q w = let p : field 6 10 xs ≡ a = cc in valid-some a (rw p at q)
 
 bare-some : (own : ℕ) (xs : List ℕ) (a : ℕ) → readPeer (readBare own xs) ≡ some a → eqb a 0 ≡ false
 unfolding readBare

@@ -8,6 +8,7 @@ use lib.Dec.{ltb, eqb}
 use lib.ListN.{length}
 use borrow.Author.Tests.{eqb-true}
 use Rattle.octets.specs.Address.{validOf}
+use Rattle.octets.specs.Element.{brokenOf}
 use Rattle.octets.specs.Field.{field}
 use Rattle.octets.specs.Class.{classOf, classless}
 use Rattle.octets.specs.Shape.{isBare, leastOf, shapeOf}
@@ -79,7 +80,8 @@ read-refusal own xs =
     by-bool (ltb (length xs) (leastOf (field 1 0 xs))) (λ c. simp (a, b, c)) (λ c.
     by-bool (forUs own (field 6 4 xs))
     (λ d. by-bool (isBare (field 1 0 xs)) (λ e. simp (a, b, c, d, e)) (λ e.
-    by-bool (eqb (field 6 10 xs) own || not (validOf (field 6 10 xs))) (λ f. simp (a, b, c, d, e, f)) (λ f. simp (a, b, c, d, e, f))))
+    by-bool (eqb (field 6 10 xs) own || not (validOf (field 6 10 xs))) (λ f. simp (a, b, c, d, e, f)) (λ f.
+    by-bool (brokenOf xs) (λ g. simp (a, b, c, d, e, f, g)) (λ g. simp (a, b, c, d, e, f, g)))))
     (λ d. by-bool (isBare (field 1 0 xs)) (λ e. simp (a, b, c, d, e)) (λ e. simp (a, b, c, d, e))))))
 
 pub received-gives : (s : Settings) (t : List Record) (xs : List ℕ) (n : ℕ) → Gives t (firstOf (frameRefusals s t xs n)) (receivedOf s t xs n)

@@ -13,6 +13,7 @@ use borrow.Author.Tests.{eqb-true, ltb-true, not-false, not-true}
 use Rattle.octets.proofs.Branch.{by-bool, pick-both, pick-by}
 use Rattle.octets.specs.Address.{validOf, groupOf}
 use Rattle.octets.specs.Class.{classless, classOf, numberOf}
+use Rattle.octets.specs.Element.{brokenOf}
 use Rattle.octets.specs.Field.{allOctets, field}
 use Rattle.octets.specs.Frame.{longest}
 use Rattle.octets.specs.Heard.{heardOf}
@@ -152,8 +153,9 @@ module _ (s : Settings) where
         (λ g. rw (u, g) tt)
         (λ g.
         let n = or-left (eqb (field 6 10 xs) (s .own)) _ g in
-        rw (u, g) (from-said xs o (full-classed xs e) (groupOf (field 6 4 xs)) (field 6 10 xs) (rw (n .0)) (not-false _ (n .1))
-        (findOf (addressesOf t) (field 6 10 xs)) (findOf (addressesOf t) 0) refl)))
+        by-bool (brokenOf xs) (λ b. rw (u, g, b) tt) (λ b.
+        rw (u, g, b) (from-said xs o (full-classed xs e) (groupOf (field 6 4 xs)) (field 6 10 xs) (rw (n .0)) (not-false _ (n .1))
+        (findOf (addressesOf t) (field 6 10 xs)) (findOf (addressesOf t) 0) refl))))
 
     -- ---- primitives
 

@@ -13,6 +13,7 @@ use Rattle.octets.proofs.Below.{heard-fits}
 use Rattle.octets.proofs.Branch.{by-bool}
 use Rattle.octets.specs.Address.{validOf, groupOf}
 use Rattle.octets.specs.Class.{classOf}
+use Rattle.octets.specs.Element.{brokenOf}
 use Rattle.octets.specs.Field.{allOctets, field}
 use Rattle.octets.specs.Frame.{longest}
 use Rattle.octets.specs.Heard.{heardOf}
@@ -89,10 +90,11 @@ module _ (s : Settings) (t : List Record) (w : Well s t) where
       (λ g. rw (e, g) w)
       (λ g.
       let n = or-left (eqb (field 6 10 xs) (s .own)) _ g in
-      rw (e, g) (in-turn s t w true (λ r b. wrong (sym b)) (field 6 10 xs) (rw (n .0)) (not-false _ (n .1))
+      by-bool (brokenOf xs) (λ b. rw (e, g, b) w) (λ b.
+      rw (e, g, b) (in-turn s t w true (λ r b. wrong (sym b)) (field 6 10 xs) (rw (n .0)) (not-false _ (n .1))
       (findOf (addressesOf t) (field 6 10 xs)) (findOf (addressesOf t) 0) _ _ refl
       (λ f. hear-keeps s true (peerOf t (findOf (addressesOf t) (field 6 10 xs)) (field 6 10 xs)) f
-      (classOf xs) (groupOf (field 6 4 xs)) (heardOf xs) (backed xs) (λ r. heard-fits xs (o r))))))
+      (classOf xs) (groupOf (field 6 4 xs)) (heardOf xs) (backed xs) (λ r. heard-fits xs (o r)))))))
 
   frame-keeps : (xs : List ℕ) → Framed s xs → (n : ℕ) → Well s (receivedOf s t xs n .table)
   unfolding receivedOf refusedOf settledOf readOf

@@ -3,6 +3,7 @@ use octets::address::group;
 use octets::address::valid;
 use octets::class::FrameClass;
 use octets::class::class;
+use octets::element::broken;
 use octets::field::address_at;
 use octets::heard::Heard;
 use octets::shape::Shape;
@@ -46,10 +47,13 @@ fn read_bare(own: u64, frame: &[u8]) -> Reading
     }
 }
 
-// A frame from a peer.
+// A frame from a peer: its elements are looked at before its class.
 fn read_from(peer: u64, to: u64, frame: &[u8]) -> Reading
     ensures { λ r. ⌜ r ≡ readFrom peer to (now (frame .entry)) ⌝ }
 {
+    if broken(frame) {
+        return Reading::Refused(3); // 02, K7
+    }
     Reading::From {
         peer,
         group: group(to),

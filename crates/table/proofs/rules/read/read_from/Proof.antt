@@ -6,6 +6,13 @@ use borrow.Author.Needs.{needs}
 use Rattle.table.proofs.rules.read.read_from.Statement.{statement}
 use Rattle.table.proofs.rules.read.read_from.Tie as tie
 
+broken-requires : tie.Need-broken-requires
+broken-requires c κs = search needs
+
+returns : tie.Need-returns
+unfolding readFrom
+returns c = search (tests, c .if1 .taken, ← c .before .broken .ensures)
+
 group-requires : tie.Need-group-requires
 group-requires c κs = search needs
 
@@ -15,9 +22,10 @@ class-requires c κs = search needs
 read-requires : tie.Need-read-requires
 read-requires c κs = search needs
 
-returns : tie.Need-returns
+returns-2 : tie.Need-returns-2
 unfolding readFrom
-returns c = search (tests, ← c .read .ensures, ← c .before .class .ensures, ← c .before .before .group .ensures)
+returns-2 c =
+    search (tests, ← c .read .ensures, ← c .before .class .ensures, ← c .before .before .group .ensures, c .before .before .before .if1 .left, ← c .before .before .before .before .broken .ensures)
 
 pub read-from-spec : {M : Type 1} → statement M
-read-from-spec = tie.close (tie.spec group-requires class-requires read-requires returns)
+read-from-spec = tie.close (tie.spec broken-requires returns group-requires class-requires read-requires returns-2)
