@@ -14,8 +14,12 @@ MANAGEMENT, CONTROL, DATA, EXTENSION = 0, 1, 2, 3
 ASSOCIATION_REQUEST, ASSOCIATION_RESPONSE = 0, 1
 REASSOCIATION_REQUEST, REASSOCIATION_RESPONSE = 2, 3
 DISASSOCIATION, AUTHENTICATION, DEAUTHENTICATION = 10, 11, 12
+ACTION, ACTION_NO_ACK = 13, 14
 PS_POLL, RTS, CTS, ACK = 10, 11, 12, 13
 
+# The category of a Public Action, and the Protected bit in the second octet of Frame Control.
+PUBLIC = 4
+PROTECTED = 0x40
 TIMEOUT_INTERVAL = 56
 COMEBACK = 3
 LONGEST_FRAME = 4096
@@ -173,6 +177,12 @@ def deauthentication(receiver, sender, reason=3, rest=b""):
 def disassociation(receiver, sender, reason=8, rest=b""):
     octets = body(DISASSOCIATION, dict(reason=reason), rest)
     return management(DISASSOCIATION, receiver, sender, octets)
+
+
+def action(receiver, sender, octets=b"", subtype=ACTION, flags=0, version=0):
+    """An Action frame; the first of the octets behind the header, if any, is its category."""
+    control_octets = frame_control(MANAGEMENT, subtype, version, flags=flags)
+    return header(control_octets, receiver, sender) + octets
 
 
 def any_frame(kind, subtype, receiver, sender, length, fill=b"\0", version=0, ds=0, flags=0):

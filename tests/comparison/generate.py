@@ -18,7 +18,7 @@ WALK_EVENTS = 1000
 FULL_EVENTS = 400
 REFUSED_EVENTS = 25
 LONGEST_HOLD_EVENTS = 65544
-SWEEP_EVENTS = 806
+SWEEP_EVENTS = 968
 KINDS = ("ap", "station", "ap-full", "station-full", "refused", "damaged", "sweep",
          "longest-hold")
 # One round of walks; a plan repeats it until the count is reached.

@@ -3,8 +3,8 @@
 from tools import bench_input as bench
 
 from .walk import (ASKED, ASSOCIATION, AUTHENTICATION, AWAITING, REASSOCIATION, fall_by_frame,
-                  fall_by_primitive, let_time_pass, protect, repeat, send_data)
-from .walk_odd import odd_elements, odd_frame, odd_primitive, odd_response
+                   fall_by_primitive, let_time_pass, protect, repeat, send_data)
+from .walk_odd import odd_action, odd_elements, odd_frame, odd_primitive, odd_response
 
 ANSWERS = {ASSOCIATION: 7, REASSOCIATION: 8}
 REJECTIONS = (1, 12, 17, 30, 65535)
@@ -92,10 +92,10 @@ def go_on(walk, peer):
         dice.of((send_data, hear_request, hear_authentication, send_data))(walk, peer)
 
 
-MOVES = ((50, go_on), (6, send_data), (4, repeat), (4, hear_request), (3, hear_authentication),
+MOVES = ((49, go_on), (6, send_data), (4, repeat), (4, hear_request), (3, hear_authentication),
          (3, fall_by_frame), (2, fall_by_primitive), (2, answer_request), (1, report),
          (1, answer_authentication), (2, protect), (3, let_time_pass),
-         (9, odd_frame), (3, odd_response), (7, odd_primitive))
+         (7, odd_frame), (3, odd_response), (3, odd_action), (7, odd_primitive))
 
 
 def fill(walk):

@@ -1,4 +1,5 @@
-"""Odd events of a walk: any type, subtype and length, bad addresses, bad codes, odd elements."""
+"""Odd events of a walk: any type, subtype and length, bad addresses, bad codes, odd elements, and
+frames near a line between two classes."""
 
 from tools import bench_input as bench
 
@@ -64,6 +65,21 @@ def odd_response(walk, peer):
     if dice.chance(50) or peer.busy_with(SENT):
         octets = octets[:-1] if elements and dice.chance(60) else octets + dice.octets(1)
     walk.hear(octets)
+
+
+def odd_action(walk, peer):
+    """An Action frame near a Public Action: 24 octets or a few more, category 4 or another, now and
+    then protected, without acknowledgement, or to or from a bad address."""
+    dice = walk.dice
+    receiver = dice.weighted(((66, walk.own), (24, dice.of(GROUPS)), (10, dice.of(FOREIGN))))
+    sender = dice.weighted(((82, peer.address), (10, dice.of(STRANGERS)), (3, walk.own),
+                            (3, dice.of(GROUPS)), (2, bench.ZERO)))
+    category = bench.PUBLIC if dice.chance(55) else dice.of((0, 3, 5, 6, 8, 127, 132, 255))
+    octets = (bytes((category,)) + dice.octets(9))[:dice.of((0, 1, 1, 2, 10))]
+    flags = dice.weighted(((55, 0), (25, bench.PROTECTED), (20, dice.below(64) << 2)))
+    subtype = bench.ACTION if dice.chance(85) else bench.ACTION_NO_ACK
+    version = 0 if dice.chance(95) else 1 + dice.below(3)
+    walk.hear(bench.action(receiver, sender, octets, subtype, flags, version))
 
 
 def odd_frame(walk, peer):

@@ -3,9 +3,10 @@
 from tools import bench_input as bench
 
 from .walk import (ASSOCIATION, AUTHENTICATION, LONGEST_STEP, REASSOCIATION, SENT, USUAL_HOLD,
-                  fall_by_frame, fall_by_primitive, let_time_pass, protect, repeat,
-                  send_data)
-from .walk_odd import BROKEN_ENDS, odd_frame, odd_primitive, odd_response, whole_elements
+                   fall_by_frame, fall_by_primitive, let_time_pass, protect, repeat,
+                   send_data)
+from .walk_odd import (BROKEN_ENDS, odd_action, odd_frame, odd_primitive, odd_response,
+                      whole_elements)
 
 RESPONSES = {ASSOCIATION: bench.association_response, REASSOCIATION: bench.reassociation_response}
 AIDS = (0x0001, 0x4001, 0x8001, 0xC001, 2007, 0xC000 | 2007, 2)
@@ -132,10 +133,10 @@ def go_on(walk, peer):
         dice.of((send_data, send_data, ask_to_join, ask_authentication))(walk, peer)
 
 
-MOVES = ((53, go_on), (5, send_data), (3, repeat), (4, ask_to_join), (3, ask_authentication),
+MOVES = ((52, go_on), (5, send_data), (3, repeat), (4, ask_to_join), (3, ask_authentication),
          (2, hear_response), (2, hear_authentication), (3, fall_by_frame),
          (2, fall_by_primitive), (1, protect), (5, let_time_pass),
-         (9, odd_frame), (2, odd_response), (6, odd_primitive))
+         (7, odd_frame), (2, odd_response), (3, odd_action), (6, odd_primitive))
 
 
 def longest_hold(walk):

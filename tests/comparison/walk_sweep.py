@@ -1,5 +1,6 @@
 """Sweeps: one peer is brought into a given state again and again, and every type and subtype to
-every sort of Address 1 at its boundary lengths, then every primitive and code, is tried there."""
+every sort of Address 1 at its boundary lengths, then Action frames, every primitive and code, is
+tried there."""
 
 from tools import bench_input as bench
 
@@ -57,6 +58,17 @@ def sweep_frames(walk, peer, reach):
                         reach()
 
 
+def sweep_actions(walk, peer):
+    """Action frames about a Public Action: its length, category and flags, and those beside them."""
+    for subtype in (bench.ACTION, bench.ACTION_NO_ACK):
+        for receiver in (walk.own, GROUPS[0], FOREIGN[0]):
+            for category in (bench.PUBLIC - 1, bench.PUBLIC, bench.PUBLIC + 1):
+                for flags in (0, bench.PROTECTED, 0x80):
+                    for octets in (0, 1, 2):
+                        body = bytes((category, 0))[:octets]
+                        walk.hear(bench.action(receiver, peer.address, body, subtype, flags))
+
+
 def sweep_primitives(walk, peer, reach):
     for which in PRIMITIVES:
         for code in CODES:
@@ -77,5 +89,6 @@ def swept(dice, index):
 
     reach()
     sweep_frames(walk, peer, reach)
+    sweep_actions(walk, peer)
     sweep_primitives(walk, peer, reach)
     return walk.octets()

@@ -62,7 +62,7 @@ static size_t draw_length(struct chance *c)
 /* Half the frames are of the seven management subtypes that act, long enough; the others are of any kind and length. */
 void draw_frame(struct chance *c, struct call *call, uint64_t peer)
 {
-    static const uint8_t acting[] = { 0, 1, 2, 3, 10, 11, 11, 12 };
+    static const uint8_t acting[] = { 0, 1, 2, 3, 10, 11, 11, 12 }, categories[] = { 3, 4, 4, 5 };
     bool meant = percent(c, 60);
     unsigned type = meant ? MANAGEMENT : below(c, 4), subtype = meant ? ONE_OF(c, acting) : below(c, 16);
     uint8_t *frame = call->frame;
@@ -71,6 +71,8 @@ void draw_frame(struct chance *c, struct call *call, uint64_t peer)
     frame[0] = (uint8_t)(type << 2 | subtype << 4 | (percent(c, 97) ? 0 : below(c, 4)));
     pt_put48(frame + 4, receiver(c, call->settings.own));
     pt_put48(frame + 10, peer);
+    if (type == MANAGEMENT && subtype == PT_ACTION)
+        frame[24] = ONE_OF(c, categories);
     call->frame_octets = draw_length(c);
     if (meant) {
         draw_body(c, frame, subtype, call->settings.role);

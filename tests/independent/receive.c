@@ -2,6 +2,7 @@
 #include "rules.h"
 
 enum { MANAGEMENT = 0, CONTROL = 1, CTS = 12, ACK = 13 };
+enum { PROTECTED = 0x40, CATEGORY = 24, PUBLIC = 4 }; /* Protected is bit 14 of Frame Control */
 enum { REASON_NOT_AUTHENTICATED = 6, REASON_NOT_ASSOCIATED = 7 };
 enum { STATUS_UNSPECIFIED = 1, STATUS_ALGORITHM = 13, STATUS_FULL = 17 };
 
@@ -21,6 +22,18 @@ static const uint8_t least[3][16] = {
     { 24, 24, 24, 24, 24, 24, 24, 24, 24, 24, 24, 24, 24, 24, 24, 24 },
 };
 
+/* The class of a version 0 frame: by type and subtype, but an unprotected Action frame that has a
+   category, and category 4, is a Public Action: class 1. */
+static unsigned class_of(const uint8_t *frame, size_t len)
+{
+    unsigned type = frame[0] >> 2 & 3, subtype = frame[0] >> 4;
+
+    if (type == MANAGEMENT && subtype == PT_ACTION && (frame[1] & PROTECTED) == 0 &&
+        len > CATEGORY && frame[CATEGORY] == PUBLIC)
+        return 1;
+    return classes[type][subtype];
+}
+
 /* The kind of exchange that a (re)association request or response belongs to. */
 static uint8_t kind_of(unsigned subtype)
 {
@@ -30,11 +43,6 @@ static uint8_t kind_of(unsigned subtype)
 static bool is_request(unsigned subtype)
 {
     return subtype == PT_ASSOC_REQUEST || subtype == PT_REASSOC_REQUEST;
-}
-
-static bool is_response(unsigned subtype)
-{
-    return subtype == PT_ASSOC_RESPONSE || subtype == PT_REASSOC_RESPONSE;
 }
 
 /* True where the peer's record has sent an exchange of this kind. */
@@ -185,7 +193,7 @@ static void act(struct pt_step *t, unsigned subtype, const uint8_t *frame, size_
 static struct pt_answer judge(struct pt_step *t, bool group, const uint8_t *frame, size_t len)
 {
     unsigned type = frame[0] >> 2 & 3, subtype = frame[0] >> 4;
-    unsigned class = classes[type][subtype];
+    unsigned class = class_of(frame, len);
     unsigned state = t->record ? t->record->state : 1; /* no record counts as State 1 */
     bool management = type == MANAGEMENT;
 
@@ -233,7 +241,8 @@ struct pt_answer pt_receive(const struct pt_settings *s, struct pt_record *table
     if (!pt_valid(peer) || peer == s->own)
         return pt_refuse(PT_BAD_INPUT);
     /* In either role, whatever the peer's state: a broken response is not half believed. */
-    if (type == MANAGEMENT && is_response(subtype) && !pt_elements_whole(frame, frame_len))
+    if (type == MANAGEMENT && (subtype == PT_ASSOC_RESPONSE || subtype == PT_REASSOC_RESPONSE) &&
+        !pt_elements_whole(frame, frame_len))
         return pt_refuse(PT_BAD_INPUT);
 
     struct pt_step t = pt_begin(s, table, &view, peer, out);

@@ -40,7 +40,7 @@ enum pt_refusal {
 /* Management subtypes of the standard that the rules name. */
 enum pt_subtype {
     PT_ASSOC_REQUEST = 0, PT_ASSOC_RESPONSE = 1, PT_REASSOC_REQUEST = 2,
-    PT_REASSOC_RESPONSE = 3, PT_DISASSOC = 10, PT_AUTH = 11, PT_DEAUTH = 12
+    PT_REASSOC_RESPONSE = 3, PT_DISASSOC = 10, PT_AUTH = 11, PT_DEAUTH = 12, PT_ACTION = 13
 };
 
 /* An address is six octets as a little-endian number; 2^48 and above is invalid. */

@@ -102,13 +102,24 @@ def acting_frames(about):
     return events
 
 
+def actions(about):
+    """Public Actions, and Action frames that are none by one thing each."""
+    public = bytes((bench.PUBLIC,))
+    kinds = ((public, {}, "Public Action"), (public + bytes(3), {}, "Public Action"),
+             (b"", {}, "Action"), (b"\3", {}, "Action"), (b"\5", {}, "Action"),
+             (public, dict(flags=bench.PROTECTED), "Action"),
+             (public, dict(subtype=bench.ACTION_NO_ACK), "Action No Ack"))
+    return [Event("frame", cause, about, bench.frame(bench.action(to, about, octets, **given)))
+            for octets, given, cause in kinds for to in (OWN, bench.BROADCAST)]
+
+
 def other_frames(about):
     """Every type and subtype that has no rule of its own, long enough for any of them."""
     acting = {0, 1, 2, 3, 10, 11, 12}
     return [Event("frame", f"type {kind} subtype {subtype}", about,
                   bench.frame(bench.any_frame(kind, subtype, to, about, 40)))
             for kind in range(4) for subtype in range(16) for to in (OWN, bench.BROADCAST)
-            if kind or subtype not in acting]
+            if kind or subtype not in acting] + actions(about)
 
 
 @functools.lru_cache(maxsize=None)

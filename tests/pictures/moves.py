@@ -16,8 +16,9 @@ from tools.pictures import move_list
 from . import situations
 
 ROLES = {number: word for word, number in move_list.ROLES.items()}
-# A kind of frame of each class.
-PROBES = {"type 0 subtype 8": 1, "Disassociation": 2, "type 2 subtype 0": 3}
+# Kinds of frames of each class.
+PROBES = {"type 0 subtype 8": 1, "Public Action": 1, "Disassociation": 2, "type 2 subtype 0": 3,
+          "Action": 3, "Action No Ack": 3}
 
 
 def expanded(lines):

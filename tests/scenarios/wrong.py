@@ -23,6 +23,11 @@ LINES = [
      "to, body, version, flags, to-ds, from-ds, duration, length"),
     ("frame data from=p reason=3", "'reason' is no field of data: one of "
      "from, to, body, version, flags, to-ds, from-ds, duration, length, third, sequence"),
+    ("frame public-action from=p category=5", "'category' is no field of public-action: one of "
+     "from, to, body, version, flags, to-ds, from-ds, duration, length, third, sequence"),
+    ("frame data from=p category=4", "'category' is no field of data: one of "
+     "from, to, body, version, flags, to-ds, from-ds, duration, length, third, sequence"),
+    ("frame action from=p category=256", "category: 256 does not fit: 0 to 255"),
     ("frame deauth from=p reason=65536", "reason: 65536 does not fit: 0 to 65535"),
     ("frame deauth from=p reason=-1",
      "reason: '-1' is no number: decimal as 17, or hexadecimal as 0x11"),

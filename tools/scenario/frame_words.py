@@ -1,4 +1,4 @@
-"""The words for frames: one for each type and subtype that has a class, with the fields it takes."""
+"""The words for frames, for each type and subtype that has a class, with the fields they take."""
 
 import collections
 
@@ -22,6 +22,7 @@ TABLE = [
     Word("auth-request", _M, 11, 1, "Authentication, transaction 1"),
     Word("auth-response", _M, 11, 1, "Authentication, transaction 2"),
     Word("deauth", _M, 12, 1, "Deauthentication"),
+    Word("public-action", _M, 13, 1, "Action of category 4; class 3 where protected, flags=0x40"),
     Word("action", _M, 13, 3, "Action"),
     Word("action-no-ack", _M, 14, 3, "Action No Ack"),
     Word("block-ack-request", _C, 8, 3, "Block Ack Request"),
@@ -65,11 +66,12 @@ ALL_FIELDS = [
     Field("reason", "number", 0xFFFF, "3 of a deauth and 8 of a disassoc if not given"),
     Field("comeback", "number", 0xFFFFFFFF, "Timeout Interval element, type 3, with this time in TU"),
     Field("elements", "octets", 0, "further octets behind the fixed fields: 38050300 is a cut element"),
-    Field("body", "octets", 0, "the octets behind the header, hexadecimal"),
+    Field("category", "number", 0xFF, "the first octet of an Action's body: none if not given"),
+    Field("body", "octets", 0, "the octets behind the header, or behind the category, hexadecimal"),
     Field("to-ds", "number", 1, "1 of a data frame to an AP, else 0, if not given"),
     Field("from-ds", "number", 1, "1 of a data frame to a station, else 0, if not given"),
     Field("version", "number", 3, "0 if not given"),
-    Field("flags", "number", 0xFC, "second octet of Frame Control above the DS bits: 0 if not given"),
+    Field("flags", "number", 0xFC, "second octet of Frame Control: 0x40 is Protected; 0 if not given"),
     Field("duration", "number", 0xFFFF, "0 if not given"),
     Field("sequence", "number", 0xFFFF, "Sequence Control: 0 if not given"),
     Field("length", "number", bench.LONGEST_FRAME, "the frame cut, or filled with 00, to so many octets"),
@@ -95,7 +97,7 @@ def own_fields(row):
     names = ["from", "to"] if has_sender(row) else ["to"]
     body = fixed(row)
     if not body:
-        return names + ["body"]
+        return names + (["category"] if row.word in ("action", "action-no-ack") else []) + ["body"]
     if "aid" in body:
         body = body + ["aid-field", "comeback"]
     return names + body + ["elements"]

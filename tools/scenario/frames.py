@@ -22,7 +22,8 @@ def default(row, name, own, role, rsna, given):
              "transaction": 1 if row.word == "auth-request" else 2,
              "aid": 0 if given.get("status") else 1,
              "reason": 8 if row.word == "disassoc" else 3,
-             "elements": b"", "body": b"", "comeback": None, "aid-field": None, "length": None}
+             "elements": b"", "body": b"", "comeback": None, "aid-field": None, "category": None,
+             "length": None}
     if row.type == bench.DATA:
         usual["to-ds"], usual["from-ds"] = int(at_ap), int(not at_ap)
         usual["body"] = b"\0\0" if row.subtype & QOS else b""
@@ -51,7 +52,8 @@ def _aid_field(fields):
 
 def _body(row, fields):
     if "body" in fields:
-        return fields["body"]
+        category = bench.PUBLIC if row.word == "public-action" else fields.get("category")
+        return (b"" if category is None else bytes((category,))) + fields["body"]
     laid = {name.replace("-", "_"): fields.get(name) for name in frame_words.fixed(row)}
     rest = fields["elements"]
     if "aid" in laid:
@@ -80,13 +82,16 @@ def encode(row, fields):
 
 
 def word_of(octets):
-    """The row of the frame's type and subtype; None where it has no class."""
+    """The row of the frame's type and subtype; None where it has no class. Where two rows share them,
+    the first is that of transaction 1, or of category 4."""
     if len(octets) < 2:
         return None
     wanted = octets[0] >> 2 & 3, octets[0] >> 4
     rows = [row for row in frame_words.TABLE if (row.type, row.subtype) == wanted]
     if len(rows) == 2:
-        return rows[0] if octets[26:28] == bench.number(1) else rows[1]
+        action = rows[0].subtype == bench.ACTION
+        first = octets[24:25] == bytes((bench.PUBLIC,)) if action else octets[26:28] == bench.number(1)
+        return rows[0] if first else rows[1]
     return rows[0] if rows else None
 
 
@@ -98,6 +103,10 @@ def names_peer(octets):
 
 def _split_body(row, rest):
     """The fields of a body; None where it is too short for them."""
+    if row.word == "public-action":
+        return {"body": rest[1:]}
+    if "category" in frame_words.fields_of(row):
+        return {"category": rest[0] if rest else None, "body": rest[1:]}
     if not frame_words.fixed(row):
         return {"body": rest}
     fields = {}

@@ -11,7 +11,7 @@ JOIN_CONFIRMS = (6, 8)
 MOST_SHOWN = 24
 # Fields of a frame sent that are shown only where they are not these.
 PLAIN = {"version": 0, "flags": 0, "duration": 0, "sequence": 0, "to-ds": 0, "from-ds": 0,
-         "elements": b"", "body": b""}
+         "elements": b"", "body": b"", "category": None}
 HEXADECIMAL = ("capability", "aid-field", "flags")
 
 

@@ -3,6 +3,7 @@ pub mod Table
 pub mod Numbers
 pub mod Le
 pub mod Below
+pub mod PublicAction
 pub mod Walk
 pub mod Elements
 pub mod Stores

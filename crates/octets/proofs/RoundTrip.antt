@@ -12,7 +12,7 @@ use borrow.Author.Tests.{eqb-true}
 use Rattle.octets.specs.Pick.{pick}
 use Rattle.octets.specs.Field.{le, octets, field}
 use Rattle.octets.specs.Element.{walk}
-use Rattle.octets.specs.Class.{classOf}
+use Rattle.octets.specs.Class.{classOf, isPublicAction}
 use Rattle.octets.specs.Frame.{aidField, headOf, bodyOf, bytesOf}
 use Rattle.octets.specs.Heard.{heardOf, responseOf, authenticationOf}
 use Rattle.octets.specs.Shape.{shapeOf, leastOf, leastManagement, isBare}
@@ -100,7 +100,7 @@ module _ (a₁ a₂ a₃ c : ℕ) where
 
   -- A frame written here has a class, and the length and the addresses that it needs.
   pub shape-back : {s : ℕ} {b : Body} {w : Heard} → Says c s b w → shapeOf (bytesOf (framed s a₁ a₂ a₃ b)) ≡ Full
-  unfolding octets headOf bodyOf bytesOf shapeOf classOf leastOf leastManagement isBare
+  unfolding octets headOf bodyOf bytesOf shapeOf classOf isPublicAction leastOf leastManagement isBare
   shape-back authentication = refl
   shape-back association-request = refl
   shape-back reassociation-request = refl

@@ -1,11 +1,12 @@
 -- 01, A received frame: "Classes, one fixed list by type and subtype".
 -- Assumes nothing.
 use Prim.Native.Nat.{ℕ, zero, suc}
-use mathlib.Core.Bool.{Bool, true, false}
+use mathlib.Core.Bool.{Bool, true, false, _&&_}
 use mathlib.Core.List.{List}
-use lib.Dec.{ltb, eqb}
+use lib.Dec.{ltb, leb, eqb}
+use lib.ListN.{length}
 use Rattle.octets.specs.Pick.{pick}
-use Rattle.octets.specs.Field.{field, versionOf, typeOf, subtypeOf}
+use Rattle.octets.specs.Field.{field, versionOf, typeOf, subtypeOf, protectedOf}
 use Rattle.octets.specs.declared.class.FrameClass.{FrameClass}
 use Rattle.octets.specs.declared.class.FrameClass.the-variants.{None, One, Two, Three}
 
@@ -51,9 +52,20 @@ classless One = false
 classless Two = false
 classless Three = false
 
+-- 02, K1: "An unprotected frame (bit 14 of Frame Control 0) of type 0, subtype 13, at least 25 octets long and with octet 24 equal to 4 is
+-- class 1. A 24-octet Action frame stays class 3, and so does subtype 14."
+unfoldable pub isPublicAction : List ℕ → Bool
+isPublicAction xs =
+    eqb (typeOf (field 1 0 xs)) 0
+    && (eqb (subtypeOf (field 1 0 xs)) 13
+    && (eqb (protectedOf (field 1 1 xs)) 0
+    && (leb 25 (length xs)
+    && eqb (field 1 24 xs) 4)))
+
 -- The class of a frame, from its octets. 01, A received frame, 2: version not 0, or no class.
 unfoldable pub classOf : List ℕ → FrameClass
 classOf xs =
     pick (eqb (versionOf (field 1 0 xs)) 0)
-    (named (classNumber (typeOf (field 1 0 xs)) (subtypeOf (field 1 0 xs))))
+    (pick (isPublicAction xs) One
+    (named (classNumber (typeOf (field 1 0 xs)) (subtypeOf (field 1 0 xs)))))
     None

@@ -34,3 +34,7 @@ typeOf first = first / 4 % 4
 
 abbrev pub subtypeOf : ℕ → ℕ
 subtypeOf first = first / 16
+
+-- 02, K1: "unprotected frame (bit 14 of Frame Control 0)": bit 6 of the second octet.
+abbrev pub protectedOf : ℕ → ℕ
+protectedOf second = second / 64 % 2

@@ -2,7 +2,8 @@
 use crate::field::octet_at;
 ghost use mathlib.Core.Path.{_≡_};
 ghost use Prim.Native.Nat.{_/_, _%_, _<_};
-ghost use Rattle.octets.specs.Class.{classOf, classNumber, classless, named};
+ghost use Rattle.octets.specs.Field.{field};
+ghost use Rattle.octets.specs.Class.{isPublicAction, classOf, classNumber, classless, named};
 
 pub enum FrameClass {
     // No class: discarded.
@@ -95,6 +96,26 @@ fn entry(i: usize) -> FrameClass
     CLASSES[i]
 }
 
+// Whether a frame, whose first octet is given, is an unprotected Public Action.
+fn public_action(first: u8, frame: &[u8]) -> bool
+    requires { ⌜ first ≡ field 1 0 (now frame) ⌝ }
+    ensures { λ r. ⌜ r ≡ isPublicAction (now (frame .entry)) ⌝ }
+{
+    if first / 4 % 4 != 0 {
+        return false;
+    }
+    if first / 16 != 13 {
+        return false;
+    }
+    if octet_at(frame, 1) / 64 % 2 != 0 {
+        return false;
+    }
+    if frame.len() < 25 {
+        return false; // no category
+    }
+    octet_at(frame, 24) == 4
+}
+
 // The class of a frame, from its octets: none where its version is not 0.
 pub fn class(frame: &[u8]) -> FrameClass
     ensures { λ r. ⌜ r ≡ classOf (now (frame .entry)) ⌝ }
@@ -102,6 +123,9 @@ pub fn class(frame: &[u8]) -> FrameClass
     let first = octet_at(frame, 0);
     if first % 4 != 0 {
         return FrameClass::None;
+    }
+    if public_action(first, frame) {
+        return FrameClass::One;
     }
     entry((first / 4 % 4 * 16 + first / 16) as usize)
 }

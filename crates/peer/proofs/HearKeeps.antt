@@ -1,14 +1,14 @@
 -- 01, Settings, table, clock, of "Well formed": "Each step keeps this." A frame, at one peer.
 -- Assumes nothing.
-use Prim.Native.Nat.{ℕ, _≤_}
+use Prim.Native.Nat.{ℕ, _≤_, _<_}
 use native.Mathlib.Omega.{arith}
 use mathlib.Core.Path.{_≡_, refl, sym}
 use mathlib.Core.Bool.{Bool, true, false, not, _&&_, _||_}
 use mathlib.Core.List.{List}
 use lib.Dec.{eqb, leb, ltb}
-use borrow.Author.Tests.{eqb-true, le-leb, not-false}
+use borrow.Author.Tests.{eqb-true, le-leb, ltb-true, ne-eqb, not-false}
 use Rattle.octets.proofs.Branch.{by-bool}
-use Rattle.octets.specs.Class.{classOf}
+use Rattle.octets.specs.Class.{classOf, isPublicAction}
 use Rattle.octets.specs.Field.{field, subtypeOf, typeOf, versionOf}
 use Rattle.octets.specs.Heard.{authenticationOf, heardOf, responseOf}
 use Rattle.octets.specs.Read.{ComebackFits, HeardFits}
@@ -153,9 +153,12 @@ hear-keeps = heard-keeps
 two-passes :
     (xs : List ℕ) → eqb (typeOf (field 1 0 xs)) 0 ≡ true → ltb (subtypeOf (field 1 0 xs)) 4 ≡ true → (state : ℕ)
     → passesOf (classOf xs) state ≡ true → leb 2 state ≡ true
-unfolding classOf
+unfolding classOf isPublicAction
 two-passes xs t l state h = by-bool (eqb (versionOf (field 1 0 xs)) 0)
-    (λ v. rw (v, t, l) at h)
+    (λ v.
+    let low : subtypeOf (field 1 0 xs) < 4 = ltb-true (subtypeOf (field 1 0 xs)) 4 l in
+    let other : eqb (subtypeOf (field 1 0 xs)) 13 ≡ false = ne-eqb (subtypeOf (field 1 0 xs)) 13 (λ z. omega arith) in
+    rw (v, t, other, l) at h)
     (λ v. wrong (rw v at h))
 
 pub backed : (xs : List ℕ) → Backed (classOf xs) (heardOf xs)

@@ -11,7 +11,7 @@ use borrow.Author.Tests.{eqb-true, leb-false, not-true, not-false}
 use Rattle.octets.proofs.Below.{heard-fits}
 use Rattle.octets.proofs.Branch.{by-bool, pick-both, pick-by}
 use Rattle.octets.specs.Address.{validOf}
-use Rattle.octets.specs.Class.{classless, classOf, numberOf}
+use Rattle.octets.specs.Class.{classless, classOf, isPublicAction, numberOf}
 use Rattle.octets.specs.Field.{allOctets, field, octets, subtypeOf, typeOf, versionOf}
 use Rattle.octets.specs.Frame.{aidField, bodyOf, bytesOf, capabilityOf, headOf}
 use Rattle.octets.specs.Heard.{authenticationOf, heardOf, responseOf}
@@ -57,7 +57,7 @@ unfolding classOf
 version-zero xs h = by-bool (eqb (versionOf (field 1 0 xs)) 0) (λ e. e) (λ e. wrong (sym (rw e at h)))
 
 pub classed : (xs : List ℕ) → classless (classOf xs) ≡ false → Classed (classOf xs) (heardOf xs)
-unfolding classOf heardOf authenticationOf responseOf
+unfolding classOf isPublicAction heardOf authenticationOf responseOf
 classed xs h =
     let v = version-zero xs h in
     by-bool (eqb (typeOf (field 1 0 xs)) 0)
@@ -199,5 +199,5 @@ answered :
     ReadsTo home 0x0e (heard.Response Reassociation 1 0 Absent)
     (0x30 ∷ 0 ∷ 0 ∷ 0 ∷ 0x0e ∷ 0 ∷ 0 ∷ 0 ∷ 0 ∷ 0 ∷ 0x0a ∷ 0 ∷ 0 ∷ 0 ∷ 0 ∷ 0 ∷ 0x0a ∷ 0 ∷ 0 ∷ 0 ∷ 0 ∷ 0 ∷ 0 ∷ 0 ∷
     0x01 ∷ 0 ∷ 1 ∷ 0 ∷ 0 ∷ 0 ∷ [])
-unfolding hearOf repliedOf turnOf barredOf requestBarred responseTo sendOf apAddress capabilityOf aidField bytesOf headOf bodyOf octets settingsFit timeFits validOf freshOf classOf heardOf
+unfolding hearOf repliedOf turnOf barredOf requestBarred responseTo sendOf apAddress capabilityOf aidField bytesOf headOf bodyOf octets settingsFit timeFits validOf freshOf classOf isPublicAction heardOf
 answered = hear-said home refl (freshOf 0x0e) refl (omega arith) asking refl refl false .1

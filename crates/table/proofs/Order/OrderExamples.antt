@@ -8,7 +8,7 @@ use lib.Dec.{T}
 use lib.ListN.{replicate, getD}
 use Rattle.octets.specs.Address.{validOf, groupOf}
 use Rattle.octets.specs.Field.{octets}
-use Rattle.octets.specs.Class.{classOf}
+use Rattle.octets.specs.Class.{isPublicAction, classOf}
 use Rattle.octets.specs.Element.{brokenOf, isResponse, walk}
 use Rattle.octets.specs.Heard.{authenticationOf, responseOf, heardOf}
 use Rattle.octets.specs.Shape.{leastManagement, isBare, leastOf, shapeOf}
@@ -107,7 +107,7 @@ pub record AtWork : Type 0 where
   newcomers-swapped : ends (tableOf []) (ev (frame otherRequest) ∷ ev (frame authenticationRequest) ∷ []) ≡ (1, other) ∷ (1, them) ∷ []
 
 pub at-work : AtWork
-unfolding validOf groupOf octets classOf walk isResponse brokenOf authenticationOf responseOf heardOf leastManagement isBare leastOf shapeOf capabilityOf
+unfolding validOf groupOf octets classOf isPublicAction walk isResponse brokenOf authenticationOf responseOf heardOf leastManagement isBare leastOf shapeOf capabilityOf
     aidField headOf bodyOf bytesOf writtenOf lengthOf settingsFit timeFits isJoined associates freshOf isFree changedOf stands askedFits awaitingFits
     sentFits holdFits recordFits placeFits dsOf apAddress sendOf authenticationTo disassociationTo requestTo responseTo turnOf endedOf
     begunOf repliedOf stillOf barredOf requestedOf authenticationAtAp answeredMove authenticationAtStation authenticationHeard

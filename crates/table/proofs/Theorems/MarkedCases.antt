@@ -5,7 +5,7 @@ use mathlib.Core.Path.{_≡_, refl}
 use mathlib.Core.Bool.{true}
 use Rattle.octets.specs.Address.{validOf, groupOf}
 use Rattle.octets.specs.Field.{octets}
-use Rattle.octets.specs.Class.{classOf}
+use Rattle.octets.specs.Class.{isPublicAction, classOf}
 use Rattle.octets.specs.Element.{brokenOf, ends, isResponse, walk}
 use Rattle.octets.specs.Heard.{authenticationOf, responseOf, heardOf}
 use Rattle.octets.specs.Shape.{leastManagement, isBare, leastOf, shapeOf}
@@ -37,7 +37,7 @@ use Rattle.table.specs.Pass.{reportFor, reportsOf, clockedOf, passedOf, 
 use Rattle.table.specs.Marked.{same, answerFields, recordFields, sameTable, zerosAfter, tableOf, lineComesOut, linesComeOut, comesOut, marked}
 
 pub marked-cases : allOf comesOut marked ≡ true
-unfolding validOf groupOf octets classOf walk ends isResponse brokenOf authenticationOf responseOf heardOf leastManagement isBare leastOf shapeOf capabilityOf
+unfolding validOf groupOf octets classOf isPublicAction walk ends isResponse brokenOf authenticationOf responseOf heardOf leastManagement isBare leastOf shapeOf capabilityOf
     aidField headOf bodyOf bytesOf writtenOf lengthOf settingsFit timeFits isJoined associates freshOf isFree changedOf stands askedFits awaitingFits
     sentFits holdFits recordFits placeFits dsOf apAddress sendOf authenticationTo disassociationTo requestTo responseTo turnOf endedOf
     begunOf repliedOf stillOf barredOf requestedOf authenticationAtAp answeredMove authenticationAtStation authenticationHeard

@@ -12,7 +12,7 @@ use lib.ListN.{length, getD, replicate}
 use borrow.Author.Tests.{lt-ltb}
 use Rattle.octets.proofs.Branch.{by-bool}
 use Rattle.octets.specs.Address.{validOf, groupOf}
-use Rattle.octets.specs.Class.{classOf}
+use Rattle.octets.specs.Class.{classOf, isPublicAction}
 use Rattle.octets.specs.Element.{brokenOf, isResponse}
 use Rattle.octets.specs.Field.{octets}
 use Rattle.octets.specs.Frame.{aidField, bodyOf, bytesOf, capabilityOf, headOf, lengthOf, writtenOf}
@@ -76,7 +76,7 @@ accepted = step-said home two refl (event.Ask 7 0x0e 0) [] (replicate 34 0) (ome
 kept-out :
     ReadsTo home 0x06 (heard.Deauthentication 7)
     (0xc0 ∷ 0 ∷ 0 ∷ 0 ∷ 0x06 ∷ 0 ∷ 0 ∷ 0 ∷ 0 ∷ 0 ∷ 0x0a ∷ 0 ∷ 0 ∷ 0 ∷ 0 ∷ 0 ∷ 0x0a ∷ 0 ∷ 0 ∷ 0 ∷ 0 ∷ 0 ∷ 0 ∷ 0 ∷ 7 ∷ 0 ∷ [])
-unfolding validOf groupOf octets classOf isResponse brokenOf heardOf isBare leastOf shapeOf headOf bodyOf bytesOf writtenOf lengthOf settingsFit timeFits isJoined
+unfolding validOf groupOf octets classOf isPublicAction isResponse brokenOf heardOf isBare leastOf shapeOf headOf bodyOf bytesOf writtenOf lengthOf settingsFit timeFits isJoined
     associates freshOf isFree changedOf stands askedFits holdFits recordFits placeFits dsOf apAddress sendOf deauthenticationTo turnOf repliedOf
     barredOf hearOf firstFrom allTails countOf aloneIn crowdOf sparseOf wellFormed settledOf refusedOf steppedOf seatedOf startsOf newcomerOf
     strangerOf forUs readFrom readFull readOf heardFrom receivedOf

@@ -23,6 +23,13 @@ returns : tie.Need-returns
 unfolding classOf
 returns c = search (tests, ← c .before .octet-at .ensures)
 
+public-action-requires : tie.Need-public-action-requires
+public-action-requires c κs = c .before .octet-at .ensures
+
+returns-2 : tie.Need-returns-2
+unfolding classOf
+returns-2 c = search (tests, ← c .before .before .before .octet-at .ensures, c .if2 .taken, ← c .before .public-action .ensures)
+
 mul-entry : tie.Need-mul-entry
 mul-entry c = search needs
 
@@ -35,11 +42,12 @@ cast-entry c = search needs
 entry-requires : tie.Need-entry-requires
 entry-requires c κs = search needs
 
-returns-2 : tie.Need-returns-2
+returns-3 : tie.Need-returns-3
 unfolding classOf
-returns-2 c =
-    rw (← c .before .before .octet-at .ensures, eq-eqb _ _ (c .before .if1 .left))
-    (c .entry .ensures ∙ ap named (apart (c .before .before .octet-at .result) (omega arith)))
+returns-3 c =
+    let first = c .before .before .before .before in
+    rw (← first .octet-at .ensures, eq-eqb _ _ (c .before .before .before .if1 .left), ← c .before .before .public-action .ensures, c .before .if2 .left)
+    (c .entry .ensures ∙ ap named (apart (first .octet-at .result) (omega arith)))
 
 pub class-spec : {M : Type 1} → statement M
 class-spec =
@@ -47,8 +55,10 @@ class-spec =
     (tie.spec
     octet-at-requires
     returns
+    public-action-requires
+    returns-2
     mul-entry
     add-entry
     cast-entry
     entry-requires
-    returns-2)
+    returns-3)
