@@ -12,6 +12,7 @@ pub mod Step
 pub mod Lent
 pub mod Rows
 pub mod Host
+pub mod Case
 pub mod Marked
 pub mod Exactly
 pub mod Written

@@ -38,7 +38,8 @@ use Rattle.table.specs.Receive.{heardFrom, receivedOf}
 use Rattle.table.specs.Ask.{mayAsk, noPlace, askedAt, askedOf}
 use Rattle.table.specs.Pass.{reportFor, reportsOf, clockedOf, passedOf, passedIn}
 use Rattle.peer.specs.declared.record.Record.{Record}
-use Rattle.table.specs.Marked.{tableOf, asAp, them, ours, frameOf, authenticationRequest, dataFrame}
+use Rattle.table.specs.Case.{tableOf}
+use Rattle.table.specs.Marked.{asAp, them, ours, frameOf, authenticationRequest, dataFrame}
 use Rattle.table.specs.Order.{end, answers, SameOutcome, Coming, frame, primitive, Handed, Gets, happens, peerNamed, addressOf}
 use Rattle.table.proofs.Order.Allowed.{rearranged, allowed, moved, allKnown, named-all}
 use Rattle.table.proofs.Order.DemandThree.{demand-3}

@@ -34,7 +34,8 @@ use Rattle.table.specs.Read.{forUs, readFrom, readFull, readOf}
 use Rattle.table.specs.Receive.{heardFrom, receivedOf}
 use Rattle.table.specs.Ask.{mayAsk, noPlace, askedAt, askedOf}
 use Rattle.table.specs.Pass.{reportFor, reportsOf, clockedOf, passedOf, passedIn}
-use Rattle.table.specs.Marked.{same, answerFields, recordFields, sameTable, zerosAfter, tableOf, lineComesOut, linesComeOut, comesOut, marked}
+use Rattle.table.specs.Case.{same, answerFields, recordFields, sameTable, zerosAfter, tableOf, lineComesOut, linesComeOut, comesOut}
+use Rattle.table.specs.Marked.{marked}
 
 pub marked-cases : allOf comesOut marked ≡ true
 unfolding validOf groupOf octets classOf isPublicAction walk ends isResponse brokenOf authenticationOf responseOf heardOf leastManagement isBare leastOf shapeOf capabilityOf
