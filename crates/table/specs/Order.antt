@@ -8,7 +8,7 @@ use mathlib.Core.Bool.{true}
 use mathlib.Core.Option.{Option, none, some}
 use mathlib.Core.List.{List, [], _∷_}
 use lib.Dec.{ltb}
-use lib.ListN.{length, getD, set, getElem?}
+use lib.ListN.{length, getD, getElem?}
 use Rattle.octets.specs.Pick.{pick}
 use Rattle.octets.specs.Frame.{longest}
 use Rattle.peer.specs.Settings.{ap}
@@ -55,18 +55,6 @@ Has d addr t a = (i : ℕ) × (i < length t) × (addr (getD t i d) ≡ a)
 -- "every peer named already has a record"
 abbrev pub Named : {R E : Type 0} → R → (R → ℕ) → (E → Option ℕ) → List R → List E → Type 0
 Named {E = E} d addr key t l = (k : ℕ) (e : E) (a : ℕ) → getElem? l k ≡ some e → key e ≡ some a → Has d addr t a
-
--- What makes the order between peers not matter: an event acts on its own peer's record alone.
-pub record Local {R E A : Type 0} (d : R) (addr : R → ℕ) (key : E → Option ℕ) (WF : List R → Type 0) (step : List R → E → List R × A)
-    (next : ℕ → R → E → R) (said : ℕ → R → E → A) (alone : E → A) : Type 0 where
-  -- a step of a peer with a record keeps the table well formed
-  pub keeps : (t : List R) (e : E) (i : ℕ) → WF t → i < length t → key e ≡ some (addr (getD t i d)) → WF (step t e .0)
-  -- an event that names a peer with a record, at place i, changes that record alone; what it gets depends on nothing else
-  pub acts : (t : List R) (e : E) (i : ℕ) → WF t → i < length t → key e ≡ some (addr (getD t i d)) → step t e ≡ (set t i (next i (getD t i d) e), said i (getD t i d) e)
-  -- and no record changes its address
-  pub same : (i : ℕ) (r : R) (e : E) → addr (next i r e) ≡ addr r
-  -- an event that names no valid peer changes nothing, and gets the same whatever the table
-  pub stays : (t : List R) (e : E) → WF t → key e ≡ none → step t e ≡ (t, alone e)
 
 -- "the end table is the same place for place, and every event gets the same answer and the same bytes": the event at place k, wherever it went
 pub record SameOutcome {R E A : Type 0} (step : List R → E → List R × A) (t : List R) (l₁ l₂ : List E) (to : ℕ → ℕ) : Type 0 where

@@ -1,4 +1,5 @@
--- At an access point the order between different peers' events does not matter, by the laws of `Local` (specs/Order.antt).
+-- At an access point the order between different peers' events does not matter, by the laws of `Local`.
+--     Local          an event acts on its own peer's record alone
 --     same-record    one peer's record depends on that peer's own events, in their order
 --     any-order      the theorem
 -- Assumes nothing.
@@ -11,8 +12,20 @@ use mathlib.Core.Option.{Option, none, some}
 use mathlib.Core.List.{List, [], _∷_}
 use lib.ListN.{length, getD, set, take, getElem?, length-set}
 use lib.Seq.{getD-set-same, getD-set-other, ext-getD, take-length}
-use Rattle.table.specs.Order.{end, answers, Moved, Has, Named, Local, SameOutcome}
+use Rattle.table.specs.Order.{end, answers, Moved, Has, Named, SameOutcome}
 use Rattle.table.proofs.Order.Weave.{Cut, Follows, at, came, cut-all, cut-at, inside, weave}
+
+-- What makes the order between peers not matter: an event acts on its own peer's record alone.
+pub record Local {R E A : Type 0} (d : R) (addr : R → ℕ) (key : E → Option ℕ) (WF : List R → Type 0) (step : List R → E → List R × A)
+    (next : ℕ → R → E → R) (said : ℕ → R → E → A) (alone : E → A) : Type 0 where
+  -- a step of a peer with a record keeps the table well formed
+  pub keeps : (t : List R) (e : E) (i : ℕ) → WF t → i < length t → key e ≡ some (addr (getD t i d)) → WF (step t e .0)
+  -- an event that names a peer with a record, at place i, changes that record alone; what it gets depends on nothing else
+  pub acts : (t : List R) (e : E) (i : ℕ) → WF t → i < length t → key e ≡ some (addr (getD t i d)) → step t e ≡ (set t i (next i (getD t i d) e), said i (getD t i d) e)
+  -- and no record changes its address
+  pub same : (i : ℕ) (r : R) (e : E) → addr (next i r e) ≡ addr r
+  -- an event that names no valid peer changes nothing, and gets the same whatever the table
+  pub stays : (t : List R) (e : E) → WF t → key e ≡ none → step t e ≡ (t, alone e)
 
 module _ {R E A : Type 0} (step : List R → E → List R × A) where
   -- every event gets an answer, so that `SameOutcome` says something at every place

@@ -10,8 +10,8 @@ use Rattle.peer.specs.Settings.{ap as accessPoint}
 use Rattle.peer.specs.Record.{freeOf}
 use Rattle.peer.specs.declared.settings.Settings.{Settings}
 use Rattle.peer.specs.declared.record.Record.{Record}
-use Rattle.table.specs.Order.{Local, Moved, Named, SameOutcome, Handed, happens, eventOf, octetsOf, Whole, peerNamed, addressOf, OrderFree}
-use Rattle.table.proofs.Order.AnyOrder.{any-order, coarser}
+use Rattle.table.specs.Order.{Moved, Named, SameOutcome, Handed, happens, eventOf, octetsOf, Whole, peerNamed, addressOf, OrderFree}
+use Rattle.table.proofs.Order.AnyOrder.{Local, any-order, coarser}
 use Rattle.table.proofs.Order.OwnTurn.{acts, alone, next, said, same-of, stays}
 use Rattle.table.proofs.Theorems.StepKeeps.{step-keeps-at-ap}
 

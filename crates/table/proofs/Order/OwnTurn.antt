@@ -1,6 +1,6 @@
 -- At an access point an event acts on its own peer's record alone: what the event makes of that record, and what it gets.
 --     next, said, alone       the record after it; what it gets; and what it gets where it names no peer
---     acts, stays, same-of    the laws of `Local` (specs/Order.antt) but `keeps`
+--     acts, stays, same-of    the laws of `Local` (AnyOrder.antt) but `keeps`
 -- Assumes nothing.
 use Prim.Native.Nat.{ℕ, _<_}
 use mathlib.Core.Path.{_≡_, refl, sym}
