@@ -38,13 +38,18 @@ refusalsAt s p o at free q a c =
     ∷ (6, noPlace at free q)
     ∷ []
 
--- A primitive in a table with these addresses, once 1 and 2 do not apply.
+-- A primitive to a peer with record p, once 1 and 2 do not apply. The second turn of `turnIn` is that of a newcomer for whom no place is
+-- free; of a primitive it is not needed, as refusal 6 came first, and the one turn stands for both.
+abbrev pub askedBy : Settings → List Record → Record → Others → Found → Found → ℕ → ℕ → ℕ → Met
+askedBy s t p o at free q a c =
+    let turn = askOf s (aidOf at) p o q c in
+    unless (firstOf (refusalsAt s p o at free q a c)) t (turnIn t at free turn turn)
+
+-- The same with what a table with these addresses has of the peer: the place where it is found, its record, and the lowest free place.
 unfoldable pub askedAt : Settings → List Record → List ℕ → ℕ → ℕ → ℕ → Met
 askedAt s t ads q a c =
-    unless (firstOf (refusalsAt s (peerOf t (findOf ads a) a) (othersOf s t) (findOf ads a) (findOf ads 0) q a c)) t
-    (turnIn t (findOf ads a) (findOf ads 0)
-    (askOf s (aidOf (findOf ads a)) (peerOf t (findOf ads a) a) (othersOf s t) q c)
-    (askOf s (aidOf (findOf ads a)) (peerOf t (findOf ads a) a) (othersOf s t) q c))
+    let at = findOf ads a in
+    askedBy s t (peerOf t at a) (othersOf s t) at (findOf ads 0) q a c
 
 -- A primitive, lent a buffer of n octets.
 unfoldable pub askedOf : Settings → List Record → ℕ → ℕ → ℕ → ℕ → Met

@@ -25,9 +25,9 @@ use Rattle.table.specs.declared.rules.answer.Met.{Met}
 -- 6. to 8., with the table's addresses: the peer's turn; of an authentication that needs a record where no place is free, "reply status 17".
 unfoldable pub heardFrom : Settings → List Record → List ℕ → ℕ → Bool → FrameClass → Heard → Met
 heardFrom s t ads peer group k h =
-    turnIn t (findOf ads peer) (findOf ads 0)
-    (hearOf s (peerOf t (findOf ads peer) peer) k group h)
-    (fullOf s (peerOf t (findOf ads peer) peer))
+    let at = findOf ads peer in
+    let p = peerOf t at peer in
+    turnIn t at (findOf ads 0) (hearOf s p k group h) (fullOf s p)
 
 abbrev pub heardAt : Settings → List Record → List ℕ → Reading → Met
 heardAt s t ads (Refused n) = refusedOf t n

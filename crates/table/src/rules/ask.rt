@@ -14,11 +14,10 @@ use peer::refuse::role_allowed;
 use peer::settings::Settings;
 ghost use mathlib.Core.Path.{_≡_};
 ghost use mathlib.Core.List.{List};
-ghost use Rattle.peer.specs.Ask.{askOf};
 ghost use Rattle.peer.specs.declared.record.Record.{Record as Peer};
-ghost use Rattle.table.specs.Seat.{aidOf, metOf, turnIn};
-ghost use Rattle.table.specs.Refusals.{firstOf, unless};
-ghost use Rattle.table.specs.Ask.{mayAsk, noPlace, refusalsAt};
+ghost use Rattle.table.specs.Seat.{aidOf, metOf};
+ghost use Rattle.table.specs.Refusals.{firstOf};
+ghost use Rattle.table.specs.Ask.{askedBy, mayAsk, noPlace, refusalsAt};
 
 // Whether number, address and code may be asked at all: else refusal 3.
 fn may_ask(s: Settings, primitive: u8, address: u64, code: u16) -> bool
@@ -104,7 +103,7 @@ pub(crate) fn asked_at(
     address: u64,
     code: u16,
 ) -> Change
-    ensures { λ r. ⌜ ((t : List Peer) → metOf t r ≡ unless (firstOf (refusalsAt s p o at free primitive address code)) t (turnIn t at free (askOf s (aidOf at) p o primitive code) (askOf s (aidOf at) p o primitive code))) ⌝ }
+    ensures { λ r. ⌜ ((t : List Peer) → metOf t r ≡ askedBy s t p o at free primitive address code) ⌝ }
 {
     let n = refusal(s, free, at, p, o, primitive, address, code);
     if n != 0 {
