@@ -1,3 +1,5 @@
+pub mod WordedPrimitives
+pub mod WordedRecords
 pub mod Worded
 pub mod Gives
 pub mod MarkedCases

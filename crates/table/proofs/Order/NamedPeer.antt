@@ -1,15 +1,14 @@
 -- The peer that an event names: its address is not 0, and the event has the buffer that it needs.
 -- Assumes nothing.
-use Prim.Native.Nat.{ℕ, _%_}
+use Prim.Native.Nat.{ℕ}
 use native.Mathlib.Omega.{arith}
 use mathlib.Core.Path.{_≡_, refl}
 use mathlib.Core.Bool.{Bool, true, false, not, _&&_, _||_}
 use mathlib.Core.Option.{none, some}
 use mathlib.Core.List.{List}
-use lib.Dec.{eqb, ltb, leb}
+use lib.Dec.{eqb, ltb}
 use lib.ListN.{length}
-use borrow.Author.Tests.{not-true}
-use Rattle.octets.proofs.Branch.{and-left, and-right}
+use Rattle.octets.proofs.Branch.{and-right}
 use Rattle.octets.specs.Pick.{pick}
 use Rattle.octets.specs.Address.{groupOf, validOf}
 use Rattle.octets.specs.Class.{classOf}
@@ -26,15 +25,11 @@ use Rattle.table.specs.Read.{forUs, readBare, readFrom, readFull, readAs
 use Rattle.table.specs.Ask.{mayAsk}
 use Rattle.table.specs.Order.{Coming, frame, primitive, Handed, readPeer, comingPeer, peerNamed}
 use Rattle.table.specs.declared.rules.read.Reading.the-variants.{Refused, Admitted, From}
+use Rattle.table.proofs.Theorems.WordedRecords.{valid-named}
 
 -- an event that names nobody names no peer
 pub nobody : {P : Type 0} {a : ℕ} → none ≡ some a → P
 nobody e = let z : _≡_ {A = ℕ} 0 1 = cc in absurd (omega arith)
-
--- an address that is valid is not 0
-valid-some : (a : ℕ) → validOf a ≡ true → eqb a 0 ≡ false
-unfolding validOf
-valid-some a v = not-true (eqb a 0) (and-left (not (eqb a 0)) (leb a 281474976710655 && eqb (a % 2) 0) v)
 
 full-some : (own : ℕ) (xs : List ℕ) (a : ℕ) → readPeer (readFull own xs) ≡ some a → eqb a 0 ≡ false
 unfolding readFull readFrom
@@ -47,7 +42,7 @@ full-some own xs a e = go (not (forUs own (field 6 4 xs))) (eqb (field 6 10 xs) 
     go false true v b q w = nobody w
     go false false false b q w = nobody w
     go false false true true q w = nobody w
-    go false false true false q w = let p : field 6 10 xs ≡ a = cc in valid-some a (rw p at q)
+    go false false true false q w = let p : field 6 10 xs ≡ a = cc in valid-named a (rw p at q)
 
 bare-some : (own : ℕ) (xs : List ℕ) (a : ℕ) → readPeer (readBare own xs) ≡ some a → eqb a 0 ≡ false
 unfolding readBare
@@ -72,7 +67,7 @@ module _ (s : Settings) where
       go : (m l : Bool) → mayAsk s q b c ≡ m → pick m (pick l (some b) none) none ≡ some a → eqb a 0 ≡ false
       go true true v w =
           let p : b ≡ a = cc in
-          valid-some a
+          valid-named a
           (rw p at (and-right (not (eqb b (s .own))) (validOf b) (and-right (codeAllowed q c) (not (eqb b (s .own)) && validOf b) v)))
       go true false v w = nobody w
       go false l v w = nobody w

@@ -1,0 +1,86 @@
+-- The ten primitives: what holds of each and of every other number holds of all. Refusals 3 and 5, worded by the table of primitives
+-- (specs/Exactly.antt), are the rule's.
+-- Assumes nothing.
+use Prim.Native.Nat.{ℕ}
+use mathlib.Core.Path.{_≡_, refl, sym}
+use mathlib.Core.Bool.{Bool, true, false, not, _&&_, _||_, or-false}
+use lib.Dec.{eqb, leb}
+use borrow.Author.Tests.{eqb-true}
+use Rattle.octets.proofs.Branch.{by-bool}
+use Rattle.octets.specs.Address.{validOf}
+use Rattle.peer.proofs.Fits.{wrong}
+use Rattle.peer.specs.Refuse.{codeAllowed, roleAllowed}
+use Rattle.peer.specs.Settings.{ap, station}
+use Rattle.peer.specs.declared.settings.Settings.{Settings}
+use Rattle.table.specs.Ask.{mayAsk}
+use Rattle.table.specs.Exactly.{someOf, row, taken, plays, notToBeAsked}
+
+-- ---- ten numbers
+
+-- a number that is none of the ten
+pub record Other (q : ℕ) : Type 0 where
+  pub is1 : eqb q 1 ≡ false
+  pub is2 : eqb q 2 ≡ false
+  pub is3 : eqb q 3 ≡ false
+  pub is4 : eqb q 4 ≡ false
+  pub is5 : eqb q 5 ≡ false
+  pub is6 : eqb q 6 ≡ false
+  pub is7 : eqb q 7 ≡ false
+  pub is8 : eqb q 8 ≡ false
+  pub is9 : eqb q 9 ≡ false
+  pub is10 : eqb q 10 ≡ false
+
+module _ (P : ℕ → Type 0) where
+  or-else : (k : ℕ) → P k → (q : ℕ) → (eqb q k ≡ false → P q) → P q
+  or-else k p q next = by-bool (eqb q k) (λ e. rw (eqb-true q k e) p) next
+
+  pub by-number : P 1 → P 2 → P 3 → P 4 → P 5 → P 6 → P 7 → P 8 → P 9 → P 10 → ((q : ℕ) → Other q → P q) → (q : ℕ) → P q
+  by-number p1 p2 p3 p4 p5 p6 p7 p8 p9 p10 other q =
+      or-else 1 p1 q (λ e1. or-else 2 p2 q (λ e2. or-else 3 p3 q (λ e3. or-else 4 p4 q (λ e4. or-else 5 p5 q (λ e5.
+      or-else 6 p6 q (λ e6. or-else 7 p7 q (λ e7. or-else 8 p8 q (λ e8. or-else 9 p9 q (λ e9. or-else 10 p10 q (λ e10.
+      other q (record { is1 = e1; is2 = e2; is3 = e3; is4 = e4; is5 = e5; is6 = e6; is7 = e7; is8 = e8; is9 = e9; is10 = e10 })))))))))))
+
+-- ---- 3 and 5: the table of primitives
+
+abbrev CodesSame : ℕ → ℕ → Type 0
+CodesSame c q = (not (row q (λ r. true)) || row q (λ r. not (taken (r .codes) c))) ≡ not (codeAllowed q c)
+
+codes-same : (c q : ℕ) → CodesSame c q
+unfolding someOf codeAllowed
+codes-same c =
+    by-number (CodesSame c) zero-code refl other-code zero-code zero-code other-code refl refl zero-code
+    (by-bool (leb c 1) (λ e. rw e) (λ e. rw e))
+    (λ q o. simp (o .is1, o .is2, o .is3, o .is4, o .is5, o .is6, o .is7, o .is8, o .is9, o .is10))
+  where
+    zero-code : (not (eqb c 0) || false) ≡ not (eqb c 0)
+    zero-code = or-false (not (eqb c 0))
+
+    other-code : (not (not (eqb c 0)) || false) ≡ not (not (eqb c 0))
+    other-code = or-false (not (not (eqb c 0)))
+
+abbrev RolesSame : ℕ → ℕ → Type 0
+RolesSame role q = row q (λ r. not (plays (r .who) role)) ≡ not (roleAllowed q role)
+
+pub roles-same : (role q : ℕ) → RolesSame role q
+unfolding someOf roleAllowed
+roles-same role =
+    by-number (RolesSame role) at-stations at-aps refl at-stations at-stations refl at-aps at-aps refl at-aps
+    (λ q o. simp (o .is1, o .is2, o .is3, o .is4, o .is5, o .is6, o .is7, o .is8, o .is9, o .is10))
+  where
+    at-stations : (not (eqb role station) || false) ≡ not (eqb role station)
+    at-stations = or-false (not (eqb role station))
+
+    at-aps : (not (eqb role ap) || false) ≡ not (eqb role ap)
+    at-aps = or-false (not (eqb role ap))
+
+pub may-same : (s : Settings) (q a c : ℕ) → notToBeAsked s q a c ≡ not (mayAsk s q a c)
+unfolding mayAsk
+may-same s q a c = regroup (not (row q (λ r. true))) (validOf a) (eqb a (s .own)) (row q (λ r. not (taken (r .codes) c))) (codeAllowed q c) (codes-same c q)
+  where
+    regroup : (u v o w k : Bool) → (u || w) ≡ not k → (u || (not v || (o || w))) ≡ not (k && (not o && v))
+    regroup true v o w true e = wrong (sym e)
+    regroup true v o w false e = refl
+    regroup false true true w true e = refl
+    regroup false true false w true e = e
+    regroup false false o w true e = by-bool o (λ b. rw b) (λ b. rw b)
+    regroup false v o w false e = by-bool v (λ b. by-bool o (λ d. rw (b, d)) (λ d. rw (b, d) e)) (λ b. rw b)
