@@ -28,9 +28,9 @@ use Rattle.table.specs.Refusals.{firstOf, unless}
 use Rattle.table.specs.Seat.{seatedOf, strangerOf, startsOf, newcomerOf, turnIn, peerOf, aidOf}
 use Rattle.table.specs.Read.{forUs, readBare, readFrom, readFull, readOf}
 use Rattle.table.specs.Receive.{heardFrom, heardAt, receivedOf}
-use Rattle.table.specs.Ask.{refusalsAt, askedAt, askedOf}
+use Rattle.table.specs.Ask.{askedAt, askedOf}
 use Rattle.table.specs.Exactly.{readRefusals, frameRefusals, askRefusals}
-use Rattle.table.proofs.Theorems.Worded.{ruledList, worded}
+use Rattle.table.proofs.Theorems.Worded.{ruledAt, ruledList, worded}
 use Rattle.table.specs.declared.rules.seat.Found.{Found}
 use Rattle.table.specs.declared.rules.seat.Found.the-variants.{At, Nothing}
 use Rattle.table.specs.declared.rules.read.Reading.{Reading}
@@ -90,7 +90,7 @@ received-gives s t xs n =
     by-bool (ltb n longest) (λ a. simp a refuses) (λ a.
     by-bool (wellFormed s t) (λ b. simp (a, b) (rw (read-refusal (s .own) xs) at (heard-gives s t (readOf (s .own) xs)))) (λ b. simp (a, b) refuses))
 
-asked-at-gives : (s : Settings) (t : List Record) (ads : List ℕ) (q a c : ℕ) → Gives t (firstOf (refusalsAt s (peerOf t (findOf ads a) a) (othersOf s t) (findOf ads a) (findOf ads 0) q a c)) (askedAt s t ads q a c)
+asked-at-gives : (s : Settings) (t : List Record) (ads : List ℕ) (q a c : ℕ) → Gives t (firstOf (ruledAt s t ads q a c)) (askedAt s t ads q a c)
 unfolding askedAt
 asked-at-gives s t ads q a c =
     let at = findOf ads a in

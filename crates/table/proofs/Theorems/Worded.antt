@@ -176,11 +176,17 @@ module _ (s : Settings) (t : List Record) (w : Facts s t) (a : ℕ) (v : validOf
 
 -- ---- the list of a primitive
 
+-- the rule's list after 1 and 2, in a table with these addresses
+abbrev pub ruledAt : Settings → List Record → List ℕ → ℕ → ℕ → ℕ → List (ℕ × Bool)
+ruledAt s t ads q a c =
+    let at = findOf ads a in
+    refusalsAt s (peerOf t at a) (othersOf s t) at (findOf ads 0) q a c
+
 abbrev pub ruledList : Settings → List Record → ℕ → ℕ → ℕ → ℕ → List (ℕ × Bool)
 ruledList s t q a c n =
     (1, ltb n longest)
     ∷ (2, not (wellFormed s t))
-    ∷ refusalsAt s (peerOf t (findOf (addressesOf t) a) a) (othersOf s t) (findOf (addressesOf t) a) (findOf (addressesOf t) 0) q a c
+    ∷ ruledAt s t (addressesOf t) q a c
 
 -- The first condition of the worded list that holds has the number of the first of the rule's.
 pub worded : (s : Settings) (t : List Record) (q a c n : ℕ) → firstOf (askRefusals s t q a c n) ≡ firstOf (ruledList s t q a c n)
