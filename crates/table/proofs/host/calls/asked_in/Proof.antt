@@ -18,10 +18,10 @@ vacancy-requires : tie.Need-vacancy-requires
 vacancy-requires c κs = search needs
 
 peer-at-requires : tie.Need-peer-at-requires
-peer-at-requires c κs = search needs
+peer-at-requires c κs = tt
 
 asked-at-requires : tie.Need-asked-at-requires
-asked-at-requires c κs = search needs
+asked-at-requires c κs = tt
 
 returns : tie.Need-returns
 unfolding askedAt

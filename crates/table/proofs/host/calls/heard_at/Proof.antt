@@ -14,25 +14,25 @@ enum-known-r : tie.Need-enum-known-r
 enum-known-r c = search needs
 
 refused-requires : tie.Need-refused-requires
-refused-requires c κs = search needs
+refused-requires c κs = tt
 
 enum-told : tie.Need-enum-told
 enum-told c = search needs
 
 verdict-requires : tie.Need-verdict-requires
-verdict-requires c κs = search needs
+verdict-requires c κs = tt
 
 settled-requires : tie.Need-settled-requires
-settled-requires c κs = search needs
+settled-requires c κs = tt
 
 enum-told-2 : tie.Need-enum-told-2
 enum-told-2 c = search needs
 
 verdict-requires-2 : tie.Need-verdict-requires-2
-verdict-requires-2 c κs = search needs
+verdict-requires-2 c κs = tt
 
 settled-requires-2 : tie.Need-settled-requires-2
-settled-requires-2 c κs = search needs
+settled-requires-2 c κs = tt
 
 enum-known-r-2 : tie.Need-enum-known-r-2
 enum-known-r-2 c = search needs
@@ -44,10 +44,10 @@ vacancy-requires : tie.Need-vacancy-requires
 vacancy-requires c κs = search needs
 
 peer-at-requires : tie.Need-peer-at-requires
-peer-at-requires c κs = search needs
+peer-at-requires c κs = tt
 
 heard-from-requires : tie.Need-heard-from-requires
-heard-from-requires c κs = search needs
+heard-from-requires c κs = tt
 
 returns : tie.Need-returns
 unfolding heardFrom

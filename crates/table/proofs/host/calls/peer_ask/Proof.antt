@@ -16,13 +16,13 @@ use Rattle.table.proofs.host.calls.peer_ask.Statement.{statement}
 use Rattle.table.proofs.host.calls.peer_ask.Tie as tie
 
 refusal-requires : tie.Need-refusal-requires
-refusal-requires c κs = search needs
+refusal-requires c κs = tt
 
 returns : tie.Need-returns
 returns c = rw (c .refusal .ensures) (no-room (now (c .before .before .before .before .args .table)) (c .before .before .before .before .args .s) (event.Ask (c .before .before .before .before .args .primitive) (c .before .before .before .before .args .address) (c .before .before .before .before .args .code)) [] (now (c .before .before .before .before .args .out)) (λ k. c .before .before .before .slice-known .given k .fits) (c .before .if1 .taken))
 
 refusal-requires-2 : tie.Need-refusal-requires-2
-refusal-requires-2 c κs = search needs
+refusal-requires-2 c κs = tt
 
 returns-2 : tie.Need-returns-2
 returns-2 c = rw (c .refusal2 .ensures) (no-table (now (c .before .before .before .before .before .args .table)) (c .before .before .before .before .before .args .s) (event.Ask (c .before .before .before .before .before .args .primitive) (c .before .before .before .before .before .args .address) (c .before .before .before .before .before .args .code)) [] (now (c .before .before .before .before .before .args .out)) (not-long (now (c .before .before .before .before .before .args .table)) (c .before .if2 .taken)) (c .before .before .if1 .left))
@@ -31,7 +31,7 @@ survey-requires : tie.Need-survey-requires
 survey-requires c κs = search needs
 
 refusal-requires-3 : tie.Need-refusal-requires-3
-refusal-requires-3 c κs = search needs
+refusal-requires-3 c κs = tt
 
 same-length : tie.Need-same-length
 same-length c = search needs
@@ -40,16 +40,16 @@ returns-3 : tie.Need-returns-3
 returns-3 c = rw (c .refusal3 .ensures) (ill-formed (now (c .before .before .before .before .before .before .before .before .args .table)) (c .before .before .before .before .before .before .before .before .args .s) (event.Ask (c .before .before .before .before .before .before .before .before .args .primitive) (c .before .before .before .before .before .before .before .before .args .address) (c .before .before .before .before .before .before .before .before .args .code)) [] (now (c .before .before .before .before .before .before .before .before .args .out)) (λ k. c .before .before .before .before .before .before .before .slice-known .given k .fits) (c .before .before .before .before .if2 .left) (c .before .before .before .before .before .if1 .left) (sym (c .before .before .survey .ensures .0) ∙ c .before .if3 .left))
 
 others-requires : tie.Need-others-requires
-others-requires c κs = search needs
+others-requires c κs = tt
 
 asked-in-requires : tie.Need-asked-in-requires
 asked-in-requires c κs = search needs
 
 met-requires : tie.Need-met-requires
-met-requires c κs = search needs
+met-requires c κs = tt
 
 answered-requires : tie.Need-answered-requires
-answered-requires c κs = search needs
+answered-requires c κs = tt
 
 same-length-2 : tie.Need-same-length-2
 same-length-2 c = search needs

@@ -13,13 +13,13 @@ use Rattle.table.proofs.host.calls.peer_pass.Statement.{statement}
 use Rattle.table.proofs.host.calls.peer_pass.Tie as tie
 
 refusal-requires : tie.Need-refusal-requires
-refusal-requires c κs = search needs
+refusal-requires c κs = tt
 
 returns : tie.Need-returns
 returns c = rw (c .refusal .ensures) (no-room (now (c .before .before .before .before .args .table)) (c .before .before .before .before .args .s) (event.Clock (c .before .before .before .before .args .step)) [] (now (c .before .before .before .before .args .out)) (λ k. c .before .before .before .slice-known .given k .fits) (c .before .if1 .taken))
 
 refusal-requires-2 : tie.Need-refusal-requires-2
-refusal-requires-2 c κs = search needs
+refusal-requires-2 c κs = tt
 
 returns-2 : tie.Need-returns-2
 returns-2 c = rw (c .refusal2 .ensures) (no-table (now (c .before .before .before .before .before .args .table)) (c .before .before .before .before .before .args .s) (event.Clock (c .before .before .before .before .before .args .step)) [] (now (c .before .before .before .before .before .args .out)) (not-long (now (c .before .before .before .before .before .args .table)) (c .before .if2 .taken)) (c .before .before .if1 .left))
@@ -28,7 +28,7 @@ survey-requires : tie.Need-survey-requires
 survey-requires c κs = search needs
 
 refusal-requires-3 : tie.Need-refusal-requires-3
-refusal-requires-3 c κs = search needs
+refusal-requires-3 c κs = tt
 
 same-length : tie.Need-same-length
 same-length c = search needs
@@ -37,7 +37,7 @@ returns-3 : tie.Need-returns-3
 returns-3 c = rw (c .refusal3 .ensures) (ill-formed (now (c .before .before .before .before .before .before .before .before .args .table)) (c .before .before .before .before .before .before .before .before .args .s) (event.Clock (c .before .before .before .before .before .before .before .before .args .step)) [] (now (c .before .before .before .before .before .before .before .before .args .out)) (λ k. c .before .before .before .before .before .before .before .slice-known .given k .fits) (c .before .before .before .before .if2 .left) (c .before .before .before .before .before .if1 .left) (sym (c .before .before .survey .ensures .0) ∙ c .before .if3 .left))
 
 refusal-requires-4 : tie.Need-refusal-requires-4
-refusal-requires-4 c κs = search needs
+refusal-requires-4 c κs = tt
 
 same-length-2 : tie.Need-same-length-2
 same-length-2 c = search needs
@@ -49,10 +49,10 @@ clock-requires : tie.Need-clock-requires
 clock-requires c κs = search needs
 
 refusal-requires-5 : tie.Need-refusal-requires-5
-refusal-requires-5 c κs = search needs
+refusal-requires-5 c κs = tt
 
 count-requires : tie.Need-count-requires
-count-requires c κs = search needs
+count-requires c κs = tt
 
 same-length-3 : tie.Need-same-length-3
 same-length-3 c = search needs

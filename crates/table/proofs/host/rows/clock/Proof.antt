@@ -31,7 +31,7 @@ mul-blank-at : tie.Need-mul-blank-at Inv-loop μ-loop
 mul-blank-at c = omega (arith, c .before .loop-test .taken)
 
 blank-at-requires : tie.Need-blank-at-requires Inv-loop μ-loop
-blank-at-requires c κs = search needs
+blank-at-requires c κs = tt
 
 loop-less : tie.Need-loop-less Inv-loop μ-loop
 loop-less c = search needs
@@ -40,10 +40,10 @@ loop-again : tie.Need-loop-again Inv-loop μ-loop
 loop-again c = (c .before .before .before .before .loop .inv .0, c .before .before .before .before .loop .inv .1, c .before .before .before .before .loop .inv .2, rewritten-free (afterOf _ _) _ (c .before .before .before .before .loop .inv .0) _ _ (c .before .before .before .loop-test .taken) (c .before .before .before .before .loop .inv .3) (c .before .before .before .before .loop .inv .2) (sym (c .before .blank-at .ensures) ∙ c .if1 .taken) (tick-free _ _ .0), told-free _ _ _ _ _ _ _ (c .before .before .before .before .loop .inv .4) (c .before .before .before .loop-test .taken) (sym (record-unread (afterOf _ _) _ (c .before .before .before .before .loop .inv .0) _ _ (c .before .before .before .loop-test .taken) (c .before .before .before .before .loop .inv .3)) ∙ blank-free _ _ (c .before .before .before .loop-test .taken) (sym (c .before .blank-at .ensures) ∙ c .if1 .taken)))
 
 look-requires : tie.Need-look-requires Inv-loop μ-loop
-look-requires c κs = search needs
+look-requires c κs = tt
 
 tick-requires : tie.Need-tick-requires Inv-loop μ-loop
-tick-requires c κs = search needs
+tick-requires c κs = tt
 
 cast-put-report : tie.Need-cast-put-report Inv-loop μ-loop
 cast-put-report c = omega (arith, c .before .before .before .before .before .before .before .loop-test .taken)
@@ -52,7 +52,7 @@ put-report-requires : tie.Need-put-report-requires Inv-loop μ-loop
 put-report-requires c κs = omega (arith, c .before .before .before .before .before .before .before .before .loop .inv .1, c .before .before .before .before .before .before .before .before .loop .inv .4 .low, c .before .before .before .before .before .before .before .before .loop .inv .4 .same, c .before .before .before .before .before .before .before .loop-test .taken)
 
 store-requires : tie.Need-store-requires Inv-loop μ-loop
-store-requires c κs = search needs
+store-requires c κs = tt
 
 loop-less-2 : tie.Need-loop-less-2 Inv-loop μ-loop
 loop-less-2 c = search needs

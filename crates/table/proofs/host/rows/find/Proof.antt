@@ -30,7 +30,7 @@ mul-address-in : tie.Need-mul-address-in Inv-loop μ-loop
 mul-address-in c = omega (arith, c .loop-test .taken)
 
 address-in-requires : tie.Need-address-in-requires Inv-loop μ-loop
-address-in-requires c κs = search needs
+address-in-requires c κs = tt
 
 returns-2 : tie.Need-returns-2 Inv-loop μ-loop
 returns-2 c = first-yes _ _ _ _ (c .before .before .before .loop .inv .2) 0 (rw (length-addresses _) (c .before .before .loop-test .taken)) (eq-eqb _ _ (sym (address-at _ _ (c .before .before .loop-test .taken)) ∙ sym (c .before .address-in .ensures) ∙ c .if2 .taken))

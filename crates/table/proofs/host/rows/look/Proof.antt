@@ -11,13 +11,13 @@ mul-row-at : tie.Need-mul-row-at
 mul-row-at c = search needs
 
 row-at-requires : tie.Need-row-at-requires
-row-at-requires c κs = search needs
+row-at-requires c κs = tt
 
 record-of-requires : tie.Need-record-of-requires
-record-of-requires c κs = search needs
+record-of-requires c κs = tt
 
 free-requires : tie.Need-free-requires
-free-requires c κs = search needs
+free-requires c κs = tt
 
 returns : tie.Need-returns
 returns c = c .record-of .ensures ∙ rw (c .before .row-at .ensures) (at-place (c .before .before .before .before .args .i) (now (c .before .before .before .before .args .table)) (c .before .before .if1 .taken))

@@ -6,7 +6,7 @@ use Rattle.table.proofs.host.rows.record_of.Statement.{statement}
 use Rattle.table.proofs.host.rows.record_of.Tie as tie
 
 exchange-of-requires : tie.Need-exchange-of-requires
-exchange-of-requires c κs = search needs
+exchange-of-requires c κs = tt
 
 returns : tie.Need-returns
 unfolding recordOf

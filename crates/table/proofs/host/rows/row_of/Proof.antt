@@ -6,7 +6,7 @@ use Rattle.table.proofs.host.rows.row_of.Statement.{statement}
 use Rattle.table.proofs.host.rows.row_of.Tie as tie
 
 exchange-number-requires : tie.Need-exchange-number-requires
-exchange-number-requires c κs = search needs
+exchange-number-requires c κs = tt
 
 returns : tie.Need-returns
 unfolding rowOf

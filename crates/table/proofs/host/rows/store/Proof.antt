@@ -9,10 +9,10 @@ mul-put-row : tie.Need-mul-put-row
 mul-put-row c = search needs
 
 row-of-requires : tie.Need-row-of-requires
-row-of-requires c κs = search needs
+row-of-requires c κs = tt
 
 put-row-requires : tie.Need-put-row-requires
-put-row-requires c κs = search needs
+put-row-requires c κs = tt
 
 same-length : tie.Need-same-length
 same-length c = search needs

@@ -16,7 +16,7 @@ part-all-requires : tie.Need-part-all-requires
 part-all-requires c κs = search needs
 
 store-requires : tie.Need-store-requires
-store-requires c κs = search needs
+store-requires c κs = tt
 
 same-length : tie.Need-same-length
 same-length c = search needs
@@ -25,7 +25,7 @@ returns : tie.Need-returns
 returns c = λ e. rw (c .before .before .before .before .before .before .before .before .if1 .taken) (c .before .before .store .ensures ∙ rw (c .before .before .before .before .before .before .part-all .ensures) (stored-maybe (map partedOf (recordsOf (now (c .before .before .before .before .before .before .before .before .before .before .args .table)))) (length-map (recordsOf (now (c .before .before .before .before .before .before .before .before .before .before .args .table))) partedOf ∙ length-records 32 0 _) _ _))
 
 store-requires-2 : tie.Need-store-requires-2
-store-requires-2 c κs = search needs
+store-requires-2 c κs = tt
 
 same-length-2 : tie.Need-same-length-2
 same-length-2 c = search needs

@@ -14,52 +14,52 @@ use Rattle.table.proofs.host.standing.row_standing.Statement.{statement
 use Rattle.table.proofs.host.standing.row_standing.Tie as tie
 
 unfit-requires : tie.Need-unfit-requires
-unfit-requires c κs = search needs
+unfit-requires c κs = tt
 
 returns : tie.Need-returns
 unfolding recordFits recordOf
 returns c = no-standing _ (c .unfit .ensures) _ _ (rw (lt-leb _ _ (c .before .if1 .taken)) (and-false (leb (c .before .before .before .args .r .exchange) 9)))
 
 unfit-requires-2 : tie.Need-unfit-requires-2
-unfit-requires-2 c κs = search needs
+unfit-requires-2 c κs = tt
 
 returns-2 : tie.Need-returns-2
 unfolding recordFits recordOf
 returns-2 c = no-standing _ (c .unfit2 .ensures) _ _ (rw (le-leb _ _ (c .before .before .before .if1 .left), lt-leb _ _ (c .before .if2 .taken)) (and-false (leb (c .before .before .before .before .before .args .r .exchange) 9)))
 
 unfit-requires-3 : tie.Need-unfit-requires-3
-unfit-requires-3 c κs = search needs
+unfit-requires-3 c κs = tt
 
 returns-3 : tie.Need-returns-3
 unfolding recordFits recordOf
 returns-3 c = no-standing _ (c .unfit3 .ensures) _ _ (rw (le-leb _ _ (c .before .before .before .before .before .before .if1 .left), le-leb _ _ (c .before .before .before .before .if2 .left), eq-eqb _ _ (c .before .if3 .taken)) (and-false (leb (c .before .before .before .before .before .before .before .before .args .r .exchange) 9)))
 
 valid-requires : tie.Need-valid-requires
-valid-requires c κs = search needs
+valid-requires c κs = tt
 
 unfit-requires-4 : tie.Need-unfit-requires-4
-unfit-requires-4 c κs = search needs
+unfit-requires-4 c κs = tt
 
 returns-4 : tie.Need-returns-4
 unfolding recordFits recordOf
 returns-4 c = no-standing _ (c .unfit4 .ensures) _ _ (rw (le-leb _ _ (c .before .before .before .before .before .before .before .before .if1 .left), le-leb _ _ (c .before .before .before .before .before .before .if2 .left), ne-eqb _ _ (c .before .before .before .if3 .left), ← c .before .before .valid .ensures, c .before .if4 .left) (and-false (leb (c .before .before .before .before .before .before .before .before .before .before .args .r .exchange) 9)))
 
 station-standing-requires : tie.Need-station-standing-requires
-station-standing-requires c κs = search needs
+station-standing-requires c κs = tt
 
 returns-5 : tie.Need-returns-5
 unfolding holdFits
 returns-5 c = by-exchange (c .before .before .before .before .before .before .before .before .before .before .before .before .args .s) (c .before .before .before .before .before .before .before .before .before .before .before .before .args .r) _ station (a-station (c .before .before .before .before .before .before .before .before .before .before .before .before .args .s) (c .before .before .before .before .before .before .before .before .before .before .before .before .pre) (ne-eqb _ _ (c .before .if5 .taken))) (le-leb _ _ (c .before .before .before .before .before .before .before .before .before .before .if1 .left)) (le-leb _ _ (c .before .before .before .before .before .before .before .before .if2 .left)) (ne-eqb _ _ (c .before .before .before .before .before .if3 .left)) (sym (c .before .before .before .before .valid .ensures) ∙ c .before .before .before .if4 .taken) (rw (le-leb (c .before .before .before .before .before .before .before .before .before .before .before .before .args .r .hold) 4294967295 (omega (arith, c .before .before .before .before .before .before .before .before .before .before .before .before .good)))) (c .station-standing .ensures)
 
 unfit-requires-5 : tie.Need-unfit-requires-5
-unfit-requires-5 c κs = search needs
+unfit-requires-5 c κs = tt
 
 returns-6 : tie.Need-returns-6
 unfolding recordFits recordOf holdFits
 returns-6 c = no-standing _ (c .unfit5 .ensures) _ _ (rw (le-leb _ _ (c .before .before .before .before .before .before .before .before .before .before .before .before .if1 .left), le-leb _ _ (c .before .before .before .before .before .before .before .before .before .before .if2 .left), ne-eqb _ _ (c .before .before .before .before .before .before .before .if3 .left), ← c .before .before .before .before .before .before .valid .ensures, c .before .before .before .before .before .if4 .taken, eq-eqb _ _ (c .before .before .before .if5 .left), ne-eqb _ _ (c .before .if6 .taken), le-leb (c .before .before .before .before .before .before .before .before .before .before .before .before .before .before .args .r .hold) 4294967295 (omega (arith, c .before .before .before .before .before .before .before .before .before .before .before .before .before .before .good))) (and-false (leb (c .before .before .before .before .before .before .before .before .before .before .before .before .before .before .args .r .exchange) 9)))
 
 ap-standing-requires : tie.Need-ap-standing-requires
-ap-standing-requires c κs = search needs
+ap-standing-requires c κs = tt
 
 returns-7 : tie.Need-returns-7
 unfolding holdFits

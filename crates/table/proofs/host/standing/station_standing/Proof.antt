@@ -17,7 +17,7 @@ unfolding exchangeOf
 returns c = (rw (c .if1 .taken), λ t. rw (c .if1 .taken))
 
 unfit-requires : tie.Need-unfit-requires
-unfit-requires c κs = search needs
+unfit-requires c κs = tt
 
 returns-2 : tie.Need-returns-2
 returns-2 c = no-standing _ (c .unfit .ensures) _ _ (rw (c .before .if2 .taken) (station-untimed (c .before .before .before .args .e) (c .before .before .before .args .state) ∙ ne-eqb _ _ (c .before .before .if1 .left)))
@@ -27,13 +27,13 @@ unfolding exchangeOf
 returns-3 c = (sym (station-timed (c .before .before .before .args .e) (c .before .before .before .args .state) (c .before .before .before .args .left) (ne-eqb _ _ (c .before .if2 .left)) (omega arith) ∙ rw (eq-eqb _ _ (c .if3 .taken))), λ t. rw (c .if3 .taken))
 
 unfit-requires-2 : tie.Need-unfit-requires-2
-unfit-requires-2 c κs = search needs
+unfit-requires-2 c κs = tt
 
 returns-4 : tie.Need-returns-4
 returns-4 c = no-standing _ (c .unfit2 .ensures) _ _ (station-timed (c .before .before .before .before .before .args .e) (c .before .before .before .before .before .args .state) (c .before .before .before .before .before .args .left) (ne-eqb _ _ (c .before .before .before .if2 .left)) (omega arith) ∙ rw (ne-eqb _ _ (c .before .before .if3 .left), lt-leb _ _ (c .before .if4 .taken)) (and-false (leb 8 (c .before .before .before .before .before .args .e) && leb (c .before .before .before .before .before .args .e) 9)))
 
 unfit-requires-3 : tie.Need-unfit-requires-3
-unfit-requires-3 c κs = search needs
+unfit-requires-3 c κs = tt
 
 returns-5 : tie.Need-returns-5
 returns-5 c = no-standing _ (c .unfit3 .ensures) _ _ (station-timed (c .before .before .before .before .before .before .args .e) (c .before .before .before .before .before .before .args .state) (c .before .before .before .before .before .before .args .left) (ne-eqb _ _ (c .before .before .before .before .if2 .left)) (omega arith) ∙ rw (ne-eqb _ _ (c .before .before .before .if3 .left), lt-leb _ _ (c .before .if5 .taken)))

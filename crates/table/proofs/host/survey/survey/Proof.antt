@@ -17,16 +17,16 @@ abbrev μ-loop : tie.MeasureT-loop
 μ-loop s table marks₀ associated₀ joined₀ associating₀ i₀ marks associated joined associating i = i
 
 ill-requires : tie.Need-ill-requires Inv-loop μ-loop
-ill-requires c κs = search needs
+ill-requires c κs = tt
 
 returns : tie.Need-returns Inv-loop μ-loop
 returns c = absurd (c .before .if1 .taken (c .before .before .before .pre))
 
 fit-requires : tie.Need-fit-requires Inv-loop μ-loop
-fit-requires c κs = search needs
+fit-requires c κs = tt
 
 ill-requires-2 : tie.Need-ill-requires-2 Inv-loop μ-loop
-ill-requires-2 c κs = search needs
+ill-requires-2 c κs = tt
 
 returns-2 : tie.Need-returns-2 Inv-loop μ-loop
 returns-2 c = says-nothing _ _ (c .ill2 .ensures) (unfit-settings _ _ (sym (c .before .before .fit .ensures) ∙ c .before .if2 .left))
@@ -44,7 +44,7 @@ mul-blank-at : tie.Need-mul-blank-at Inv-loop μ-loop
 mul-blank-at c = omega (arith, c .before .loop .inv .1 .tally .low)
 
 blank-at-requires : tie.Need-blank-at-requires Inv-loop μ-loop
-blank-at-requires c κs = search needs
+blank-at-requires c κs = tt
 
 loop-less : tie.Need-loop-less Inv-loop μ-loop
 loop-less c = search needs
@@ -56,19 +56,19 @@ mul-row-at : tie.Need-mul-row-at Inv-loop μ-loop
 mul-row-at c = omega (arith, c .before .before .before .loop .inv .1 .tally .low)
 
 row-at-requires : tie.Need-row-at-requires Inv-loop μ-loop
-row-at-requires c κs = search needs
+row-at-requires c κs = tt
 
 row-standing-requires : tie.Need-row-standing-requires Inv-loop μ-loop
 row-standing-requires c κs = c .before .before .before .before .loop .inv .0
 
 ill-requires-3 : tie.Need-ill-requires-3 Inv-loop μ-loop
-ill-requires-3 c κs = search needs
+ill-requires-3 c κs = tt
 
 returns-3 : tie.Need-returns-3 Inv-loop μ-loop
 returns-3 c = says-nothing _ _ (c .ill3 .ensures) (unfit-row _ _ _ _ _ _ _ (c .before .before .before .before .before .before .before .loop .inv .1) (c .before .before .before .before .before .before .loop-test .taken) _ (c .before .before .before .row-at .ensures) (sym (c .before .before .before .before .before .blank-at .ensures) ∙ c .before .before .before .before .if3 .left) (sym (c .before .before .row-standing .ensures .0) ∙ c .before .if4 .left))
 
 mark-requires : tie.Need-mark-requires Inv-loop μ-loop
-mark-requires c κs = search needs
+mark-requires c κs = tt
 
 array-read-alone : tie.Need-array-read-alone Inv-loop μ-loop
 array-read-alone c = omega (arith, c .mark .ensures)
@@ -77,7 +77,7 @@ alone-requires : tie.Need-alone-requires Inv-loop μ-loop
 alone-requires c κs = omega (arith, c .before .before .before .before .before .before .before .loop .inv .1 .tally .low, c .before .before .before .before .before .before .loop-test .taken)
 
 ill-requires-4 : tie.Need-ill-requires-4 Inv-loop μ-loop
-ill-requires-4 c κs = search needs
+ill-requires-4 c κs = tt
 
 returns-4 : tie.Need-returns-4 Inv-loop μ-loop
 returns-4 c = says-nothing _ _ (c .ill4 .ensures) (same-address _ _ _ _ _ _ _ (c .before .before .before .before .before .before .before .before .before .before .loop .inv .1) (c .before .before .before .before .before .before .before .before .before .loop-test .taken) _ (c .before .before .before .before .before .before .row-at .ensures) (sym (c .before .before .before .before .before .row-standing .ensures .0) ∙ c .before .before .before .before .if4 .taken) _ (c .before .before .before .mark .ensures) (sym (c .before .before .alone .ensures) ∙ c .before .if5 .left))
@@ -86,7 +86,7 @@ array-write-marks : tie.Need-array-write-marks Inv-loop μ-loop
 array-write-marks c = omega (arith, c .before .before .mark .ensures)
 
 first-joined-requires : tie.Need-first-joined-requires Inv-loop μ-loop
-first-joined-requires c κs = search needs
+first-joined-requires c κs = tt
 
 counted-requires : tie.Need-counted-requires Inv-loop μ-loop
 counted-requires c κs = omega (arith, c .before .before .before .before .before .before .before .before .before .before .before .loop .inv .1 .tally .few, c .before .before .before .before .before .before .before .before .before .before .loop-test .taken)
@@ -101,7 +101,7 @@ loop-again-2 : tie.Need-loop-again-2 Inv-loop μ-loop
 loop-again-2 c = (c .before .before .before .before .before .before .before .before .before .before .before .before .before .loop .inv .0, surveyed-used _ _ _ _ _ _ _ (c .before .before .before .before .before .before .before .before .before .before .before .before .before .loop .inv .1) (c .before .before .before .before .before .before .before .before .before .before .before .before .loop-test .taken) _ (c .before .before .before .before .before .before .before .before .before .row-at .ensures) (sym (c .before .before .before .before .before .before .before .before .row-standing .ensures .0) ∙ c .before .before .before .before .before .before .before .if4 .taken) _ (c .before .before .before .before .before .before .mark .ensures) (sym (c .before .before .before .before .before .alone .ensures) ∙ c .before .before .before .before .if5 .taken) _ (c .before .before .first-joined .ensures) _ (c .before .counted .ensures) _ (c .before .before .before .before .before .before .before .before .row-standing .ensures .1 (c .before .before .before .before .before .before .before .if4 .taken)) _ (c .counted2 .ensures))
 
 sparse-requires : tie.Need-sparse-requires Inv-loop μ-loop
-sparse-requires c κs = search needs
+sparse-requires c κs = tt
 
 returns-5 : tie.Need-returns-5 Inv-loop μ-loop
 returns-5 c = surveyed-all _ _ _ _ _ _ _ (c .before .before .loop .inv .1) (c .before .loop-test .left) (c .before .before .loop .inv .0) _ (c .sparse .ensures)

@@ -32,7 +32,7 @@ mul-address-in : tie.Need-mul-address-in Inv-loop μ-loop
 mul-address-in c = omega (arith, c .loop-test .taken)
 
 address-in-requires : tie.Need-address-in-requires Inv-loop μ-loop
-address-in-requires c κs = search needs
+address-in-requires c κs = tt
 
 returns : tie.Need-returns Inv-loop μ-loop
 returns c = tails-no (λ p ps. apart (c .before .before .before .before .before .args .a) p) (addressesOf (recordsOf (now (c .before .before .before .before .before .args .table)))) (c .before .before .before .loop .i) _ (c .before .before .before .loop .inv .1) 0 (rw (length-addresses (now (c .before .before .before .before .before .args .table))) (c .before .before .loop-test .taken)) (rw (eq-eqb _ _ (sym (address-at _ _ (c .before .before .loop-test .taken)) ∙ sym (c .before .address-in .ensures) ∙ c .if1 .taken)))

@@ -31,7 +31,7 @@ mul-blank-at : tie.Need-mul-blank-at Inv-loop μ-loop
 mul-blank-at c = omega (arith, c .before .loop .inv .1)
 
 blank-at-requires : tie.Need-blank-at-requires Inv-loop μ-loop
-blank-at-requires c κs = search needs
+blank-at-requires c κs = tt
 
 returns-2 : tie.Need-returns-2 Inv-loop μ-loop
 returns-2 c = (c .before .before .before .loop .inv .1, c .before .before .before .loop .inv .2)

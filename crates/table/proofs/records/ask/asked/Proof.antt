@@ -9,23 +9,23 @@ use Rattle.table.proofs.records.ask.asked.Statement.{statement}
 use Rattle.table.proofs.records.ask.asked.Tie as tie
 
 refused-requires : tie.Need-refused-requires
-refused-requires c κs = search needs
+refused-requires c κs = tt
 
 returns : tie.Need-returns
 unfolding askedOf askedAt firstOf unless
 returns c = rw (lt-ltb _ _ (c .before .if1 .taken)) (c .refused .ensures (c .before .before .args .t))
 
 survey-requires : tie.Need-survey-requires
-survey-requires c κs = search needs
+survey-requires c κs = tt
 
 slice-aggregate-well : tie.Need-slice-aggregate-well
 slice-aggregate-well c = search needs
 
 well-requires : tie.Need-well-requires
-well-requires c κs = search needs
+well-requires c κs = tt
 
 refused-requires-2 : tie.Need-refused-requires-2
-refused-requires-2 c κs = search needs
+refused-requires-2 c κs = tt
 
 returns-2 : tie.Need-returns-2
 unfolding askedOf askedAt firstOf unless
@@ -35,22 +35,22 @@ slice-aggregate-find : tie.Need-slice-aggregate-find
 slice-aggregate-find c = search needs
 
 find-requires : tie.Need-find-requires
-find-requires c κs = search needs
+find-requires c κs = tt
 
 others-requires : tie.Need-others-requires
-others-requires c κs = search needs
+others-requires c κs = tt
 
 slice-aggregate-find-2 : tie.Need-slice-aggregate-find-2
 slice-aggregate-find-2 c = search needs
 
 find-requires-2 : tie.Need-find-requires-2
-find-requires-2 c κs = search needs
+find-requires-2 c κs = tt
 
 peer-at-requires : tie.Need-peer-at-requires
-peer-at-requires c κs = search needs
+peer-at-requires c κs = tt
 
 asked-at-requires : tie.Need-asked-at-requires
-asked-at-requires c κs = search needs
+asked-at-requires c κs = tt
 
 returns-3 : tie.Need-returns-3
 unfolding askedOf askedAt firstOf unless

@@ -31,7 +31,7 @@ add-i : tie.Need-add-i Inv-loop μ-loop
 add-i c = search needs
 
 unused-from-requires : tie.Need-unused-from-requires Inv-loop μ-loop
-unused-from-requires c κs = search needs
+unused-from-requires c κs = tt
 
 loop-less : tie.Need-loop-less Inv-loop μ-loop
 loop-less c = search needs

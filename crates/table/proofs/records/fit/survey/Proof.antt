@@ -26,25 +26,25 @@ array-copy-out-p : tie.Need-array-copy-out-p Inv-loop μ-loop
 array-copy-out-p c = omega (arith, c .before .loop .inv .tally .long, c .before .loop .inv .tally .low)
 
 place-fits-requires : tie.Need-place-fits-requires Inv-loop μ-loop
-place-fits-requires c κs = search needs
+place-fits-requires c κs = tt
 
 both-requires : tie.Need-both-requires Inv-loop μ-loop
-both-requires c κs = search needs
+both-requires c κs = tt
 
 is-joined-requires : tie.Need-is-joined-requires Inv-loop μ-loop
-is-joined-requires c κs = search needs
+is-joined-requires c κs = tt
 
 first-joined-requires : tie.Need-first-joined-requires Inv-loop μ-loop
-first-joined-requires c κs = search needs
+first-joined-requires c κs = tt
 
 is-joined-requires-2 : tie.Need-is-joined-requires-2 Inv-loop μ-loop
-is-joined-requires-2 c κs = search needs
+is-joined-requires-2 c κs = tt
 
 counted-requires : tie.Need-counted-requires Inv-loop μ-loop
 counted-requires c κs = omega (arith, c .before .before .before .before .before .before .before .loop .inv .tally .few, c .before .before .before .before .before .before .loop-test .taken)
 
 is-associating-requires : tie.Need-is-associating-requires Inv-loop μ-loop
-is-associating-requires c κs = search needs
+is-associating-requires c κs = tt
 
 counted-requires-2 : tie.Need-counted-requires-2 Inv-loop μ-loop
 counted-requires-2 c κs = omega (arith, c .before .before .before .before .before .before .before .before .before .loop .inv .tally .few′, c .before .before .before .before .before .before .before .before .loop-test .taken)

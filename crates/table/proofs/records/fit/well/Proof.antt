@@ -6,7 +6,7 @@ use Rattle.table.proofs.records.fit.well.Statement.{statement}
 use Rattle.table.proofs.records.fit.well.Tie as tie
 
 fit-requires : tie.Need-fit-requires
-fit-requires c κs = search needs
+fit-requires c κs = tt
 
 returns : tie.Need-returns
 returns c = search (tests, ← c .before .fit .ensures, c .if1 .left)
@@ -15,10 +15,10 @@ returns-2 : tie.Need-returns-2
 returns-2 c = search (tests, ← c .before .before .fit .ensures, c .if2 .left, c .before .if1 .taken)
 
 distinct-requires : tie.Need-distinct-requires
-distinct-requires c κs = search needs
+distinct-requires c κs = tt
 
 sparse-requires : tie.Need-sparse-requires
-sparse-requires c κs = search needs
+sparse-requires c κs = tt
 
 returns-3 : tie.Need-returns-3
 returns-3 c = search (tests, ← c .sparse .ensures, ← c .before .before .distinct .ensures, ← c .before .before .before .before .before .fit .ensures, c .before .if3 .taken, c .before .before .before .if2 .taken, c .before .before .before .before .if1 .taken)

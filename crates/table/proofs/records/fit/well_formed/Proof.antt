@@ -6,13 +6,13 @@ use Rattle.table.proofs.records.fit.well_formed.Statement.{statement}
 use Rattle.table.proofs.records.fit.well_formed.Tie as tie
 
 survey-requires : tie.Need-survey-requires
-survey-requires c κs = search needs
+survey-requires c κs = tt
 
 slice-aggregate-well : tie.Need-slice-aggregate-well
 slice-aggregate-well c = search needs
 
 well-requires : tie.Need-well-requires
-well-requires c κs = search needs
+well-requires c κs = tt
 
 returns : tie.Need-returns
 returns c = well-of (c .before .before .before .before .args .s) (c .before .before .before .before .args .t) (c .before .before .before .survey .result) (c .before .before .before .survey .ensures) _ (c .well .ensures)

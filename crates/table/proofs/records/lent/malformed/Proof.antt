@@ -6,16 +6,16 @@ use Rattle.table.proofs.records.lent.malformed.Statement.{statement}
 use Rattle.table.proofs.records.lent.malformed.Tie as tie
 
 room-requires : tie.Need-room-requires
-room-requires c κs = search needs
+room-requires c κs = tt
 
 refusal-requires : tie.Need-refusal-requires
-refusal-requires c κs = search needs
+refusal-requires c κs = tt
 
 returns : tie.Need-returns
 returns c = search (tests, ← c .before .before .room .ensures)
 
 refusal-requires-2 : tie.Need-refusal-requires-2
-refusal-requires-2 c κs = search needs
+refusal-requires-2 c κs = tt
 
 returns-2 : tie.Need-returns-2
 returns-2 c = search (tests, ← c .before .before .room .ensures)

@@ -129,7 +129,7 @@ module _ {M : Type 1} (𝓤 : URA M) (H : Heap 𝓤) (A : Atoms 𝓤) (at-mem : 
   load-of : (κ : Lft) (x : RefT (List Record)) (r : List Record) → ent 𝓤 (ensured 𝓤 H A load′.ended (load′.clauses 𝓤 H A at-mem run) (κ, tt) (x, tt) tt r) (fact 𝓤 (r ≡ x .now))
   load-of κ x r = exE 𝓤 _ (λ ws. snd∗ 𝓤 (sem 𝓤 H A (lasts load′.ended (κ, tt) (x, tt) ws)) (fact 𝓤 (r ≡ x .now)))
 
-module _ {M : Type 1} (𝓤 : URA M) (H : Heap 𝓤) (A : Atoms 𝓤) (W : Given 𝓤 H A) (at-mem : Memory → SProp 𝓤) (run : Routine → Fun 𝓤) (κ κ-v-frame κ′ : Lft) (q q-v-frame q′ : Share) (b o : ℕ) (γ : GName) (ys : List Record) (v-s : Settings) (v-e : Event) (b-v-frame o-v-frame : ℕ) (γ-v-frame : GName) (v-frame : List ℕ) (b′ o′ : ℕ) (γ′ : GName) (bs : List ℕ) where
+module _ {M : Type 1} (𝓤 : URA M) (H : Heap 𝓤) (A : Atoms 𝓤) (W : Given 𝓤 H A) (at-mem : Memory → SProp 𝓤) (run : Routine → Fun 𝓤) (κ κ-v-frame κ′ : Lft) (q q-v-frame q′ : Share) (b o : ℕ) (γ : GName) (ys : List Record) (v-s : Settings) (u-s : Val) (v-e : Event) (u-e : Val) (b-v-frame o-v-frame : ℕ) (γ-v-frame : GName) (v-frame : List ℕ) (b′ o′ : ℕ) (γ′ : GName) (bs : List ℕ) where
   -- the table's borrow, under the name δ, and the buffers'
   abbrev x : GName → RefT (List Record)
   x δ = record { ptr = (b, o); name = δ; now = ys }
@@ -156,7 +156,7 @@ module _ {M : Type 1} (𝓤 : URA M) (H : Heap 𝓤) (A : Atoms 𝓤) (W : Given
   a = (x γ, (v-s, (v-e, (x-v-frame, (x′, tt)))))
 
   abbrev at : Vals own′.signature (κ, (κ-v-frame, (κ′, tt)))
-  at = (s ∷ [], ((only ((Lstruct.vals SettingsT.the-type SettingsT′.the-laws) v-s)) ∷ [], ((only ((Lenum.vals EventT.the-type EventT′.the-laws) v-e)) ∷ [], (s-v-frame ∷ [], (s′ ∷ [], tt)))))
+  at = (s ∷ [], (u-s ∷ [], (u-e ∷ [], (s-v-frame ∷ [], (s′ ∷ [], tt)))))
 
   abbrev Post : Val → SProp 𝓤
   Post = walkOf 𝓤 H A own′.ended stayed (own′.clauses 𝓤 H A at-mem run) .post (((κ, (κ-v-frame, (κ′, tt))), (q, (q-v-frame, (q′, tt))), tt, a, at), tt)
@@ -167,7 +167,7 @@ module _ {M : Type 1} (𝓤 : URA M) (H : Heap 𝓤) (A : Atoms 𝓤) (W : Given
   abbrev table-lawful : Lawful 𝓤 H A RT
   table-lawful = array-lawful 𝓤 H A W R (Lstruct.lawful RecordT.the-type RecordT′.the-laws 𝓤 H A W) 32
 
-  module _ (room : Room R (length ys)) (is-v-s : Is SettingsT.the-row v-s ((only ((Lstruct.vals SettingsT.the-type SettingsT′.the-laws) v-s)) ∷ [])) (is-v-e : Is EventT.the-row v-e ((only ((Lenum.vals EventT.the-type EventT′.the-laws) v-e)) ∷ [])) (room-v-frame : Room u8 (length v-frame)) (room′ : Room u8 (length bs)) where
+  module _ (room : Room R (length ys)) (is-v-s : Is SettingsT.the-row v-s (u-s ∷ [])) (is-v-e : Is EventT.the-row v-e (u-e ∷ [])) (room-v-frame : Room u8 (length v-frame)) (room′ : Room u8 (length bs)) where
     exits : (r : Answer) (v : Val) (zs : List Record) (cs : List ℕ) → Is RA r (v ∷ []) → length zs ≡ length ys → length cs ≡ length bs → Says ys v-s v-e v-frame bs r zs cs
         → ent 𝓤 (⋆ 𝓤 H A (‵ (finally R γ zs) ∷ ‵ (flft κ q) ∷ ‵ (finally u8 γ′ cs) ∷ ‵ (flft κ′ q′) ∷ ‵ (ShrSlice (named 1) κ-v-frame u8 .own x-v-frame (s-v-frame ∷ [])) ∷ ‵ (flft κ-v-frame q-v-frame) ∷ [])) (Post v)
     exits r v zs cs is lz lc e =
@@ -178,7 +178,7 @@ module _ {M : Type 1} (𝓤 : URA M) (H : Heap 𝓤) (A : Atoms 𝓤) (W : Given
 
     -- what each callee's triple binds outside, and its `pre`
     abbrev to-malformed : Malformed 𝓤 H A at-mem run .Ghost
-    to-malformed = ((tt, tt, tt, (v-e, (length bs, tt)), ((only ((Lenum.vals EventT.the-type EventT′.the-laws) v-e)) ∷ [], (vint w64 (length bs) ∷ [], tt))), tt)
+    to-malformed = ((tt, tt, tt, (v-e, (length bs, tt)), (u-e ∷ [], (vint w64 (length bs) ∷ [], tt))), tt)
 
     goes-malformed : ent 𝓤 (emp 𝓤) (Malformed 𝓤 H A at-mem run .pre to-malformed)
     goes-malformed = qed W [] ∵ nothing ! $ owned ! usize (Is usize) (uint-makes 𝓤 H A W w64) (length bs) _ (refl, room′ .0) $ fjoin ! $ owned ! EventT.the-row (Is EventT.the-row) (Lenum.makes EventT.the-type EventT′.the-plain 𝓤 H A) v-e _ is-v-e $ fjoin ! $ nothing ! $ join ! $ frame ! $ done !
@@ -192,7 +192,7 @@ module _ {M : Type 1} (𝓤 : URA M) (H : Heap 𝓤) (A : Atoms 𝓤) (W : Given
         nothing ! $ move ! (1 ∷ 0 ∷ []) $ fjoin ! $ done !
 
     abbrev to-core : List Record → Val → Core 𝓤 H A at-mem run .Ghost
-    to-core xs u = (((κ-v-frame, (κ′, tt)), (q-v-frame, (q′, tt)), tt, (v-s, (xs, (v-e, (x-v-frame, (x′, tt))))), ((only ((Lstruct.vals SettingsT.the-type SettingsT′.the-laws) v-s)) ∷ [], (u ∷ [], ((only ((Lenum.vals EventT.the-type EventT′.the-laws) v-e)) ∷ [], (s-v-frame ∷ [], (s′ ∷ [], tt)))))), tt)
+    to-core xs u = (((κ-v-frame, (κ′, tt)), (q-v-frame, (q′, tt)), tt, (v-s, (xs, (v-e, (x-v-frame, (x′, tt))))), (u-s ∷ [], (u ∷ [], (u-e ∷ [], (s-v-frame ∷ [], (s′ ∷ [], tt)))))), tt)
 
     goes-core : (xs : List Record) (u : Val) → Is RT xs (u ∷ []) → ent 𝓤 (sep 𝓤 (A .lft κ′ q′) (sep 𝓤 (sem 𝓤 H A (MutSlice (named 0) κ′ u8 .own x′ (s′ ∷ []))) (sep 𝓤 (A .lft κ-v-frame q-v-frame) (sem 𝓤 H A (ShrSlice (named 1) κ-v-frame u8 .own x-v-frame (s-v-frame ∷ [])))))) (Core 𝓤 H A at-mem run .pre (to-core xs u))
     goes-core xs u is =
@@ -208,9 +208,9 @@ module _ {M : Type 1} (𝓤 : URA M) (H : Heap 𝓤) (A : Atoms 𝓤) (W : Given
 
     module _ (C : Calls 𝓤 H) (Λ : Loops 𝓤 H) (fm : FmC 𝓤 H (W .laws) C) (known-malformed : Triple 𝓤 (C #malformed) (Malformed 𝓤 H A at-mem run)) (known-load : Triple 𝓤 (C #load) (Load 𝓤 H A at-mem run))
         (known-core : Triple 𝓤 (C #core) (Core 𝓤 H A at-mem run)) (known-store : Triple 𝓤 (C #store) (Store 𝓤 H A at-mem run)) where
-      walk : ent 𝓤 (onEntry 𝓤 H A own′.signature (κ, (κ-v-frame, (κ′, tt))) (q, (q-v-frame, (q′, tt))) a at) (WpFn 𝓤 H C Λ code.function (s ∷ (only ((Lstruct.vals SettingsT.the-type SettingsT′.the-laws) v-s)) ∷ (only ((Lenum.vals EventT.the-type EventT′.the-laws) v-e)) ∷ s-v-frame ∷ s′ ∷ []) Post)
+      walk : ent 𝓤 (onEntry 𝓤 H A own′.signature (κ, (κ-v-frame, (κ′, tt))) (q, (q-v-frame, (q′, tt))) a at) (WpFn 𝓤 H C Λ code.function (s ∷ u-s ∷ u-e ∷ s-v-frame ∷ s′ ∷ []) Post)
       walk =
-          qed W ((‵ (flft κ q) ⊛ ‵ (flft κ-v-frame q-v-frame) ⊛ ‵ (flft κ′ q′) ⊛ ‵ ftrue) ∷ ‵ (owns (MutSlice (named 0) κ R ∷ SettingsT.the-row ∷ EventT.the-row ∷ ShrSlice (named 1) κ-v-frame u8 ∷ MutSlice (named 2) κ′ u8 ∷ []) a at) ∷ []) ∵ enter ! C Λ code.function (s ∷ (only ((Lstruct.vals SettingsT.the-type SettingsT′.the-laws) v-s)) ∷ (only ((Lenum.vals EventT.the-type EventT′.the-laws) v-e)) ∷ s-v-frame ∷ s′ ∷ []) _ $
+          qed W ((‵ (flft κ q) ⊛ ‵ (flft κ-v-frame q-v-frame) ⊛ ‵ (flft κ′ q′) ⊛ ‵ ftrue) ∷ ‵ (owns (MutSlice (named 0) κ R ∷ SettingsT.the-row ∷ EventT.the-row ∷ ShrSlice (named 1) κ-v-frame u8 ∷ MutSlice (named 2) κ′ u8 ∷ []) a at) ∷ []) ∵ enter ! C Λ code.function (s ∷ u-s ∷ u-e ∷ s-v-frame ∷ s′ ∷ []) _ $
           alloc1 ! (λ l₀. alloc1 ! (λ l₁. alloc1 ! (λ l₂. alloc1 ! (λ l₃. alloc1 ! (λ l₄. alloc1 ! (λ l₅. alloc1 ! (λ l₆. alloc1 ! (λ l₇. alloc1 ! (λ l₈. alloc1 ! (λ l₉. alloc1 ! (λ l₁₀. alloc1 ! (λ l₁₁. alloc1 ! (λ l₁₂. alloc1 ! (λ l₁₃. alloc1 ! (λ l₁₄. alloc1 ! (λ l₁₅. alloc1 ! (λ l₁₆. alloc1 ! (λ l₁₇. alloc1 ! (λ l₁₈. alloc0 ! $ params1 ! $
           pass1 ! (init ! 34 refl (tt, (tt, (record { fits = room .0 }, tt)))) $ pass1 ! (init ! 32 refl ((Lstruct.lawful SettingsT.the-type SettingsT′.the-laws 𝓤 H A W) .typed v-s _ is-v-s .0)) $ pass1 ! (init ! 30 refl ((Lenum.lawful EventT.the-type EventT′.the-laws 𝓤 H A W tt) .typed v-e _ is-v-e .0)) $ pass1 ! (init ! 28 refl (tt, (tt, (record { fits = room-v-frame .0 }, tt)))) $ pass1 ! (init ! 26 refl (tt, (tt, (record { fits = room′ .0 }, tt)))) $ pass0 ! $
           -- what the parameters own, and the tokens, are taken apart
@@ -278,7 +278,7 @@ module _ {M : Type 1} (𝓤 : URA M) (H : Heap 𝓤) (A : Atoms 𝓤) (W : Given
       → Walks 𝓤 H A own′.ended stayed (WpFn 𝓤 H C Λ code.function) (own′.clauses 𝓤 H A at-mem run)
   walks C Λ fm km kl kc ks = walked 𝓤 H A own′.ended stayed (own′.clauses 𝓤 H A at-mem run) (WpFn 𝓤 H C Λ code.function)
       (λ κs. (slice-vals, ((Lstruct.vals SettingsT.the-type SettingsT′.the-laws), ((Lenum.vals EventT.the-type EventT′.the-laws), (slice-vals, (slice-vals, tt)))))) (λ κs. (mut-slice-tells (named 0) (κs .0) R, (Lstruct.tells SettingsT.the-type SettingsT′.the-laws, (Lenum.tells EventT.the-type EventT′.the-laws, (shr-slice-tells (named 1) (κs .1 .0) u8, (mut-slice-tells (named 2) (κs .1 .1 .0) u8, tt))))))
-      (λ κs qs bounds a g are. via 𝓤 _ (fst∗ 𝓤 _ (emp 𝓤)) (walk 𝓤 H A W at-mem run (κs .0) (κs .1 .0) (κs .1 .1 .0) (qs .0) (qs .1 .0) (qs .1 .1 .0) (a .0 .ptr .0) (a .0 .ptr .1) (a .0 .name) (a .0 .now) (a .1 .0) (a .1 .1 .0) (a .1 .1 .1 .0 .ptr .0) (a .1 .1 .1 .0 .ptr .1) (a .1 .1 .1 .0 .name) (a .1 .1 .1 .0 .now) (a .1 .1 .1 .1 .0 .ptr .0) (a .1 .1 .1 .1 .0 .ptr .1) (a .1 .1 .1 .1 .0 .name) (a .1 .1 .1 .1 .0 .now)
+      (λ κs qs bounds a g are. via 𝓤 _ (fst∗ 𝓤 _ (emp 𝓤)) (walk 𝓤 H A W at-mem run (κs .0) (κs .1 .0) (κs .1 .1 .0) (qs .0) (qs .1 .0) (qs .1 .1 .0) (a .0 .ptr .0) (a .0 .ptr .1) (a .0 .name) (a .0 .now) (a .1 .0) (only (Lstruct.vals SettingsT.the-type SettingsT′.the-laws (a .1 .0))) (a .1 .1 .0) (only (Lenum.vals EventT.the-type EventT′.the-laws (a .1 .1 .0))) (a .1 .1 .1 .0 .ptr .0) (a .1 .1 .1 .0 .ptr .1) (a .1 .1 .1 .0 .name) (a .1 .1 .1 .0 .now) (a .1 .1 .1 .1 .0 .ptr .0) (a .1 .1 .1 .1 .0 .ptr .1) (a .1 .1 .1 .1 .0 .name) (a .1 .1 .1 .1 .0 .now)
       (are .0 .0 .1) (are .1 .0) (are .1 .1 .0) (are .1 .1 .1 .0 .0 .1) (are .1 .1 .1 .1 .0 .0 .1) C Λ fm km kl kc ks))
 
 meets : {M : Type 1} (𝓤 : URA M) (H : Heap 𝓤) (A : Atoms 𝓤) → Given 𝓤 H A → (at-mem : Memory → SProp 𝓤) (run : Routine → Fun 𝓤) (𝓣 : Tables 𝓤 H)

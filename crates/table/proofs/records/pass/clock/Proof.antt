@@ -28,7 +28,7 @@ array-copy-out-p : tie.Need-array-copy-out-p Inv-loop μ-loop
 array-copy-out-p c = search needs
 
 tick-requires : tie.Need-tick-requires Inv-loop μ-loop
-tick-requires c κs = search needs
+tick-requires c κs = tt
 
 cast-put-report : tie.Need-cast-put-report Inv-loop μ-loop
 cast-put-report c = search needs

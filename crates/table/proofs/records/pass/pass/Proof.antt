@@ -9,20 +9,20 @@ use Rattle.table.proofs.records.pass.pass.Statement.{statement}
 use Rattle.table.proofs.records.pass.pass.Tie as tie
 
 refusal-requires : tie.Need-refusal-requires
-refusal-requires c κs = search needs
+refusal-requires c κs = tt
 
 returns : tie.Need-returns
 unfolding passedOf passedIn firstOf
 returns c = rw (lt-ltb _ _ (c .before .if1 .taken), ← c .refusal .ensures) (refl, refl)
 
 well-formed-requires : tie.Need-well-formed-requires
-well-formed-requires c κs = search needs
+well-formed-requires c κs = tt
 
 refusal-requires-2 : tie.Need-refusal-requires-2
-refusal-requires-2 c κs = search needs
+refusal-requires-2 c κs = tt
 
 refusal-requires-3 : tie.Need-refusal-requires-3
-refusal-requires-3 c κs = search needs
+refusal-requires-3 c κs = tt
 
 returns-2 : tie.Need-returns-2
 unfolding passedOf passedIn
@@ -32,10 +32,10 @@ clock-requires : tie.Need-clock-requires
 clock-requires c κs = search needs
 
 refusal-requires-4 : tie.Need-refusal-requires-4
-refusal-requires-4 c κs = search needs
+refusal-requires-4 c κs = tt
 
 count-requires : tie.Need-count-requires
-count-requires c κs = search needs
+count-requires c κs = tt
 
 same-length : tie.Need-same-length
 same-length c = search needs

@@ -16,7 +16,7 @@ array-copy-out-result : tie.Need-array-copy-out-result
 array-copy-out-result c = search needs
 
 free-requires : tie.Need-free-requires
-free-requires c κs = search needs
+free-requires c κs = tt
 
 returns : tie.Need-returns
 returns c = search needs

@@ -28,7 +28,7 @@ array-copy-out-p : tie.Need-array-copy-out-p Inv-loop μ-loop
 array-copy-out-p c = search needs
 
 parted-requires : tie.Need-parted-requires Inv-loop μ-loop
-parted-requires c κs = search needs
+parted-requires c κs = tt
 
 mul-next : tie.Need-mul-next Inv-loop μ-loop
 mul-next c = search needs

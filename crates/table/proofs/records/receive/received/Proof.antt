@@ -12,23 +12,23 @@ use Rattle.table.proofs.records.receive.received.Statement.{statement}
 use Rattle.table.proofs.records.receive.received.Tie as tie
 
 refused-requires : tie.Need-refused-requires
-refused-requires c κs = search needs
+refused-requires c κs = tt
 
 returns : tie.Need-returns
 unfolding receivedOf
 returns c = rw (lt-ltb _ longest (lt-of-lt-of-le (c .before .if1 .taken) (omega arith))) (c .refused .ensures (c .before .before .before .args .t))
 
 survey-requires : tie.Need-survey-requires
-survey-requires c κs = search needs
+survey-requires c κs = tt
 
 slice-aggregate-well : tie.Need-slice-aggregate-well
 slice-aggregate-well c = search needs
 
 well-requires : tie.Need-well-requires
-well-requires c κs = search needs
+well-requires c κs = tt
 
 refused-requires-2 : tie.Need-refused-requires-2
-refused-requires-2 c κs = search needs
+refused-requires-2 c κs = tt
 
 returns-2 : tie.Need-returns-2
 unfolding receivedOf
@@ -40,10 +40,10 @@ slice-aggregate-heard-at : tie.Need-slice-aggregate-heard-at
 slice-aggregate-heard-at c = search needs
 
 read-requires : tie.Need-read-requires
-read-requires c κs = search needs
+read-requires c κs = tt
 
 heard-at-requires : tie.Need-heard-at-requires
-heard-at-requires c κs = search needs
+heard-at-requires c κs = tt
 
 returns-3 : tie.Need-returns-3
 unfolding receivedOf

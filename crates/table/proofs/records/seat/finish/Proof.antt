@@ -6,7 +6,7 @@ use Rattle.table.proofs.records.seat.finish.Statement.{statement}
 use Rattle.table.proofs.records.seat.finish.Tie as tie
 
 answered-requires : tie.Need-answered-requires
-answered-requires c κs = search needs
+answered-requires c κs = tt
 
 same-length : tie.Need-same-length
 same-length c = search needs

@@ -12,7 +12,7 @@ enum-known-place : tie.Need-enum-known-place
 enum-known-place c = search needs
 
 stored-requires : tie.Need-stored-requires
-stored-requires c κs = search needs
+stored-requires c κs = tt
 
 returns : tie.Need-returns
 unfolding metOf

@@ -10,13 +10,13 @@ enum-told : tie.Need-enum-told
 enum-told c = search needs
 
 fresh-requires : tie.Need-fresh-requires
-fresh-requires c κs = search needs
+fresh-requires c κs = tt
 
 enum-known-at : tie.Need-enum-known-at
 enum-known-at c = search needs
 
 look-requires : tie.Need-look-requires
-look-requires c κs = search needs
+look-requires c κs = tt
 
 returns : tie.Need-returns
 returns c = search (tests, ← c .fresh .ensures, c .before .enum-told .given .1)

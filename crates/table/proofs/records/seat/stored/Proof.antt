@@ -5,13 +5,13 @@ use Rattle.table.proofs.records.seat.stored.Statement.{statement}
 use Rattle.table.proofs.records.seat.stored.Tie as tie
 
 part-all-requires : tie.Need-part-all-requires
-part-all-requires c κs = search needs
+part-all-requires c κs = tt
 
 store-requires : tie.Need-store-requires
-store-requires c κs = search needs
+store-requires c κs = tt
 
 store-requires-2 : tie.Need-store-requires-2
-store-requires-2 c κs = search needs
+store-requires-2 c κs = tt
 
 returns : tie.Need-returns
 returns c = rw (c .before .before .if1 .taken, ← c .before .part-all .ensures) (c .store .ensures)

@@ -8,19 +8,19 @@ enum-told : tie.Need-enum-told
 enum-told c = search needs
 
 receive-requires : tie.Need-receive-requires
-receive-requires c κs = search needs
+receive-requires c κs = tt
 
 enum-known-e : tie.Need-enum-known-e
 enum-known-e c = search needs
 
 ask-requires : tie.Need-ask-requires
-ask-requires c κs = search needs
+ask-requires c κs = tt
 
 enum-known-e-2 : tie.Need-enum-known-e-2
 enum-known-e-2 c = search needs
 
 pass-requires : tie.Need-pass-requires
-pass-requires c κs = search needs
+pass-requires c κs = tt
 
 same-length : tie.Need-same-length
 same-length c = search needs

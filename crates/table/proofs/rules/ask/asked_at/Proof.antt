@@ -7,23 +7,23 @@ use Rattle.table.proofs.rules.ask.asked_at.Statement.{statement}
 use Rattle.table.proofs.rules.ask.asked_at.Tie as tie
 
 refusal-requires : tie.Need-refusal-requires
-refusal-requires c κs = search needs
+refusal-requires c κs = tt
 
 refused-requires : tie.Need-refused-requires
-refused-requires c κs = search needs
+refused-requires c κs = tt
 
 returns : tie.Need-returns
 unfolding unless
 returns c = λ t. rw (← c .before .before .refusal .ensures, ne-eqb _ _ (c .before .if1 .taken)) (c .refused .ensures t)
 
 aid-requires : tie.Need-aid-requires
-aid-requires c κs = search needs
+aid-requires c κs = tt
 
 ask-requires : tie.Need-ask-requires
-ask-requires c κs = search needs
+ask-requires c κs = tt
 
 turn-in-requires : tie.Need-turn-in-requires
-turn-in-requires c κs = search needs
+turn-in-requires c κs = tt
 
 returns-2 : tie.Need-returns-2
 unfolding unless

@@ -7,7 +7,7 @@ use Rattle.table.proofs.rules.ask.may_ask.Statement.{statement}
 use Rattle.table.proofs.rules.ask.may_ask.Tie as tie
 
 code-allowed-requires : tie.Need-code-allowed-requires
-code-allowed-requires c κs = search needs
+code-allowed-requires c κs = tt
 
 returns : tie.Need-returns
 unfolding mayAsk
@@ -18,7 +18,7 @@ unfolding mayAsk
 returns-2 c = search (tests, c .before .before .if1 .taken, ← c .before .before .before .code-allowed .ensures)
 
 valid-requires : tie.Need-valid-requires
-valid-requires c κs = search needs
+valid-requires c κs = tt
 
 returns-3 : tie.Need-returns-3
 unfolding mayAsk

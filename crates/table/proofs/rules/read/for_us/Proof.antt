@@ -11,7 +11,7 @@ unfolding forUs
 returns c = search tests
 
 group-requires : tie.Need-group-requires
-group-requires c κs = search needs
+group-requires c κs = tt
 
 returns-2 : tie.Need-returns-2
 unfolding forUs

@@ -7,7 +7,7 @@ use Rattle.table.proofs.rules.read.read.Statement.{statement}
 use Rattle.table.proofs.rules.read.read.Tie as tie
 
 measure-requires : tie.Need-measure-requires
-measure-requires c κs = search needs
+measure-requires c κs = tt
 
 enum-told : tie.Need-enum-told
 enum-told c = search needs
@@ -19,13 +19,13 @@ enum-told-3 : tie.Need-enum-told-3
 enum-told-3 c = search needs
 
 read-bare-requires : tie.Need-read-bare-requires
-read-bare-requires c κs = search needs
+read-bare-requires c κs = tt
 
 enum-told-4 : tie.Need-enum-told-4
 enum-told-4 c = search needs
 
 read-full-requires : tie.Need-read-full-requires
-read-full-requires c κs = search needs
+read-full-requires c κs = tt
 
 returns : tie.Need-returns
 unfolding readOf

@@ -7,10 +7,10 @@ use Rattle.table.proofs.rules.read.read_bare.Statement.{statement}
 use Rattle.table.proofs.rules.read.read_bare.Tie as tie
 
 address-at-requires : tie.Need-address-at-requires
-address-at-requires c κs = search needs
+address-at-requires c κs = tt
 
 for-us-requires : tie.Need-for-us-requires
-for-us-requires c κs = search needs
+for-us-requires c κs = tt
 
 returns : tie.Need-returns
 unfolding readBare

@@ -7,27 +7,27 @@ use Rattle.table.proofs.rules.read.read_full.Statement.{statement}
 use Rattle.table.proofs.rules.read.read_full.Tie as tie
 
 address-at-requires : tie.Need-address-at-requires
-address-at-requires c κs = search needs
+address-at-requires c κs = tt
 
 for-us-requires : tie.Need-for-us-requires
-for-us-requires c κs = search needs
+for-us-requires c κs = tt
 
 returns : tie.Need-returns
 unfolding readFull
 returns c = search (tests, c .if1 .left, ← c .before .for-us .ensures, ← c .before .before .address-at .ensures)
 
 address-at-requires-2 : tie.Need-address-at-requires-2
-address-at-requires-2 c κs = search needs
+address-at-requires-2 c κs = tt
 
 returns-2 : tie.Need-returns-2
 unfolding readFull
 returns-2 c = search (tests, ← c .before .address-at2 .ensures, c .before .before .if1 .taken, ← c .before .before .before .for-us .ensures, ← c .before .before .before .before .address-at .ensures)
 
 valid-requires : tie.Need-valid-requires
-valid-requires c κs = search needs
+valid-requires c κs = tt
 
 read-from-requires : tie.Need-read-from-requires
-read-from-requires c κs = search needs
+read-from-requires c κs = tt
 
 returns-3 : tie.Need-returns-3
 unfolding readFull

@@ -5,13 +5,13 @@ use Rattle.table.proofs.rules.receive.heard_from.Statement.{statement}
 use Rattle.table.proofs.rules.receive.heard_from.Tie as tie
 
 hear-requires : tie.Need-hear-requires
-hear-requires c κs = search needs
+hear-requires c κs = tt
 
 full-requires : tie.Need-full-requires
-full-requires c κs = search needs
+full-requires c κs = tt
 
 turn-in-requires : tie.Need-turn-in-requires
-turn-in-requires c κs = search needs
+turn-in-requires c κs = tt
 
 returns : tie.Need-returns
 returns c = λ t. rw (← c .before .before .hear .ensures, ← c .before .full .ensures) (c .turn-in .ensures t)

@@ -6,10 +6,10 @@ use Rattle.table.proofs.rules.seat.answered.Statement.{statement}
 use Rattle.table.proofs.rules.seat.answered.Tie as tie
 
 say-requires : tie.Need-say-requires
-say-requires c κs = search needs
+say-requires c κs = tt
 
 count-requires : tie.Need-count-requires
-count-requires c κs = search needs
+count-requires c κs = tt
 
 same-length : tie.Need-same-length
 same-length c = search needs

@@ -7,7 +7,7 @@ use Rattle.table.proofs.rules.seat.kept.Statement.{statement}
 use Rattle.table.proofs.rules.seat.kept.Tie as tie
 
 free-requires : tie.Need-free-requires
-free-requires c κs = search needs
+free-requires c κs = tt
 
 returns : tie.Need-returns
 unfolding metOf

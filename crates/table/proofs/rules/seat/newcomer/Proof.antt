@@ -6,22 +6,22 @@ use Rattle.table.proofs.rules.seat.newcomer.Statement.{statement}
 use Rattle.table.proofs.rules.seat.newcomer.Tie as tie
 
 starts-requires : tie.Need-starts-requires
-starts-requires c κs = search needs
+starts-requires c κs = tt
 
 enum-told : tie.Need-enum-told
 enum-told c = search needs
 
 stranger-requires : tie.Need-stranger-requires
-stranger-requires c κs = search needs
+stranger-requires c κs = tt
 
 enum-known-free : tie.Need-enum-known-free
 enum-known-free c = search needs
 
 seated-requires : tie.Need-seated-requires
-seated-requires c κs = search needs
+seated-requires c κs = tt
 
 stranger-requires-2 : tie.Need-stranger-requires-2
-stranger-requires-2 c κs = search needs
+stranger-requires-2 c κs = tt
 
 returns : tie.Need-returns
 unfolding newcomerOf

@@ -7,10 +7,10 @@ use Rattle.table.proofs.rules.seat.refused.Statement.{statement}
 use Rattle.table.proofs.rules.seat.refused.Tie as tie
 
 refusal-requires : tie.Need-refusal-requires
-refusal-requires c κs = search needs
+refusal-requires c κs = tt
 
 settled-requires : tie.Need-settled-requires
-settled-requires c κs = search needs
+settled-requires c κs = tt
 
 returns : tie.Need-returns
 unfolding refusedOf

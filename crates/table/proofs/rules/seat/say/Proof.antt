@@ -11,7 +11,7 @@ enum-known-reply : tie.Need-enum-known-reply
 enum-known-reply c = search needs
 
 write-requires : tie.Need-write-requires
-write-requires c κs = search needs
+write-requires c κs = tt
 
 returns : tie.Need-returns
 returns c = search needs

@@ -6,7 +6,7 @@ use Rattle.table.proofs.rules.seat.seated.Statement.{statement}
 use Rattle.table.proofs.rules.seat.seated.Tie as tie
 
 turn-requires : tie.Need-turn-requires
-turn-requires c κs = search needs
+turn-requires c κs = tt
 
 returns : tie.Need-returns
 unfolding metOf seatedOf

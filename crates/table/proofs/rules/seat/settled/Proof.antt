@@ -6,7 +6,7 @@ use Rattle.table.proofs.rules.seat.settled.Statement.{statement}
 use Rattle.table.proofs.rules.seat.settled.Tie as tie
 
 kept-requires : tie.Need-kept-requires
-kept-requires c κs = search needs
+kept-requires c κs = tt
 
 returns : tie.Need-returns
 unfolding settledOf

@@ -7,7 +7,7 @@ use Rattle.table.proofs.rules.seat.starts.Statement.{statement}
 use Rattle.table.proofs.rules.seat.starts.Tie as tie
 
 under-way-requires : tie.Need-under-way-requires
-under-way-requires c κs = search needs
+under-way-requires c κs = tt
 
 returns : tie.Need-returns
 unfolding startsOf

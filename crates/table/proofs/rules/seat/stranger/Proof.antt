@@ -7,10 +7,10 @@ use Rattle.table.proofs.rules.seat.stranger.Statement.{statement}
 use Rattle.table.proofs.rules.seat.stranger.Tie as tie
 
 turn-requires : tie.Need-turn-requires
-turn-requires c κs = search needs
+turn-requires c κs = tt
 
 kept-requires : tie.Need-kept-requires
-kept-requires c κs = search needs
+kept-requires c κs = tt
 
 returns : tie.Need-returns
 unfolding strangerOf

@@ -8,13 +8,13 @@ enum-told : tie.Need-enum-told
 enum-told c = search needs
 
 newcomer-requires : tie.Need-newcomer-requires
-newcomer-requires c κs = search needs
+newcomer-requires c κs = tt
 
 enum-known-at : tie.Need-enum-known-at
 enum-known-at c = search needs
 
 seated-requires : tie.Need-seated-requires
-seated-requires c κs = search needs
+seated-requires c κs = tt
 
 returns : tie.Need-returns
 returns c = λ t. rw (c .before .enum-told .given .1) (c .newcomer .ensures t)
