@@ -16,11 +16,15 @@ use Rattle.table.specs.declared.rules.seat.Found.{Found}
 use Rattle.table.specs.declared.rules.answer.Met.{Met}
 use Rattle.table.specs.declared.rules.seat.Change.{Change}
 
--- A table with a change: a record stored at a place, after every record in State 3 or 4 was put to State 2 where it is so.
+-- The table with a record stored at a place, after every record in State 3 or 4 was put to State 2 where it is so.
+abbrev pub storedIn : List Record → Bool → ℕ → Record → List Record
+storedIn t sole i p = set (pick sole (map partedOf t) t) i p
+
+-- A table with a change.
 unfoldable pub metOf : List Record → Change → Met
 metOf t c =
     record {
-      table = onFound (c .place) t (λ i. set (pick (c .sole) (map partedOf t) t) i (c .peer));
+      table = onFound (c .place) t (λ i. storedIn t (c .sole) i (c .peer));
       answer = c .answer;
       reply = c .reply;
     }
@@ -37,7 +41,7 @@ aidOf at = onFound at 0 (λ i. pick (ltb i 32) (i + 1) 0)
 unfoldable pub seatedOf : List Record → ℕ → Turn → Met
 seatedOf t i turn =
     record {
-      table = set (pick (turn .sole) (map partedOf t) t) i (turn .peer);
+      table = storedIn t (turn .sole) i (turn .peer);
       answer = turnAnswer turn (turn .peer .state);
       reply = turn .reply;
     }

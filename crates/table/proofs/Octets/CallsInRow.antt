@@ -6,7 +6,7 @@ use mathlib.Core.Bool.{Bool, true, false, not, _&&_}
 use mathlib.Core.List.{List, [], _∷_, _++_}
 use native.Mathlib.Omega.{arith}
 use lib.Dec.{eqb, leb, ltb}
-use lib.ListN.{length, length-append, replicate}
+use lib.ListN.{length, length-append, replicate, take}
 use borrow.Author.Tests.{eq-eqb, ltb-true}
 use Rattle.octets.proofs.Branch.{by-bool}
 use Rattle.octets.proofs.RowTrip.{Octets, row-back}
@@ -16,6 +16,7 @@ use Rattle.octets.specs.Field.{allOctets}
 use Rattle.octets.specs.Row.{rowAt, rowOctets}
 use Rattle.peer.proofs.Fits.{both, clash}
 use Rattle.peer.specs.Record.{exchangeNumber}
+use Rattle.peer.specs.Said.{ReadsTo}
 use Rattle.peer.specs.Settings.{ap as accessPoint}
 use Rattle.peer.specs.declared.record.Exchange.{Exchange}
 use Rattle.peer.specs.declared.record.Exchange.the-variants.{None, Asked, Awaiting, Sent}
@@ -29,6 +30,7 @@ use Rattle.table.specs.Fit.{wellFormed}
 use Rattle.table.specs.Host.{hostAnswer, hostTable, hostIn}
 use Rattle.table.specs.Lent.{malformedOf, roomOf}
 use Rattle.table.specs.Marked.{asAp, authenticationRequest, them}
+use Rattle.table.specs.Meant.{Spoken, saysIn, spokenTo}
 use Rattle.table.specs.Order.{Gets, Handed, Moved, Named, SameOutcome, end, answers, happens}
 use Rattle.table.specs.Places.{allTails, allOf}
 use Rattle.table.specs.Refusals.{firstOf}
@@ -41,6 +43,7 @@ use Rattle.table.specs.declared.rules.event.Event.{Event}
 use Rattle.table.specs.declared.rules.event.Event.the-variants as event
 use Rattle.table.proofs.Theorems.RefusedExactly.{refusal-first}
 use Rattle.table.proofs.Theorems.RefusedKeeps.{refused-keeps}
+use Rattle.table.proofs.Theorems.SaidBack.{step-said}
 use Rattle.table.proofs.Theorems.StepKeeps.{step-keeps, step-keeps-at-ap}
 
 -- ---- the octets of a table are a table
@@ -185,6 +188,19 @@ leaves-table s xs c f z = by-bool (isTable xs)
     no-table : (short : Bool) → pick short (refusalAnswer 1) (refusalAnswer 2) .refusal ≡ 0 → ⊥
     no-table true z = let e : _≡_ {A = ℕ} 1 0 = z in omega arith
     no-table false z = let e : _≡_ {A = ℕ} 2 0 = z in omega arith
+
+-- Each frame that a call writes is heard at the other end as the one meant: its addresses, its kind and every field (specs/Meant.antt).
+pub call-said :
+    (s : Settings) (xs : List ℕ) (c : Call) → Spoken (c .event) (c .frame) → 0 < called s xs c .1 .answer .written
+    → ReadsTo s (spokenTo (c .event) (c .frame)) (saysIn s (recordsOf xs) (c .event) (c .frame)) (take (called s xs c .1 .answer .written) (called s xs c .1 .bytes))
+unfolding called hostAnswer hostIn
+call-said s xs c k w = by-bool (isTable xs)
+    (λ h. rw h (step-said s (recordsOf xs) (length-records 32 0 xs) (c .event) (c .frame) (c .out) k (rw h at w)))
+    (λ h. absurd (silent (ltb (length (c .out)) (roomOf (c .event))) (rw h at w)))
+  where
+    silent : (short : Bool) → 0 < pick short (refusalAnswer 1) (refusalAnswer 2) .written → ⊥
+    silent true w = omega arith
+    silent false w = omega arith
 
 -- ---- demand 3
 

@@ -9,12 +9,9 @@ use crate::rules::seat::Found;
 use crate::rules::seat::answered;
 use peer::record::Record;
 ghost use mathlib.Core.Path.{_≡_};
-ghost use mathlib.Core.List.{map};
-ghost use lib.ListN.{length, set};
-ghost use Rattle.octets.specs.Pick.{pick};
-ghost use Rattle.peer.specs.Association.{partedOf};
+ghost use lib.ListN.{length};
 ghost use Rattle.table.specs.Answer.{saidIn, steppedOf};
-ghost use Rattle.table.specs.Seat.{metOf, peerOf};
+ghost use Rattle.table.specs.Seat.{metOf, peerOf, storedIn};
 
 // The record of a peer, or a fresh one.
 pub fn peer_at(t: [Record; 32], at: Found, address: u64) -> Record
@@ -28,7 +25,7 @@ pub fn peer_at(t: [Record; 32], at: Found, address: u64) -> Record
 
 // The table with a record stored at a place, and any other parted where it is so.
 fn stored(t: [Record; 32], i: usize, p: Record, sole: bool) -> [Record; 32]
-    ensures { λ r. ⌜ r ≡ set (pick sole (map partedOf t) t) i p ⌝ }
+    ensures { λ r. ⌜ r ≡ storedIn t sole i p ⌝ }
 {
     if sole {
         store(part_all(t), i, p)
