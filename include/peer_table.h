@@ -55,7 +55,7 @@ enum {
     PEER_OUT_LEAST = 34,       /* peer_receive, peer_ask: the longest frame written */
     PEER_PASS_OUT_LEAST = 256, /* peer_pass: 32 timeouts */
     PEER_TIMEOUT_OCTETS = 8,   /* one timeout: place, kind, address of six octets */
-    PEER_STACK_OCTETS = 1024,  /* below the caller's frame; tested, not proved: every call of tests/host runs within it; most seen: 880 */
+    PEER_STACK_OCTETS = 1024,  /* below the caller's frame; tested, not proved: every call of tests/host runs within it; most seen: 896 */
     PEER_HOLD_USUAL = 1954     /* 2 s: the hold after a rejection without a comeback time, and after a disassociation received */
 };
 
