@@ -1,4 +1,4 @@
-// The records of a bench input: mark 0B 03, kind, length, body; numbers little-endian.
+// The records of a bench input: mark 0B 03, kind, length, body; numbers little-endian. And the buffer that they are taken from.
 use octets::field::address_at;
 use octets::field::octet_at;
 use octets::field::u16_at;
@@ -7,7 +7,9 @@ use table::rules::event::Event;
 ghost use mathlib.Core.Path.{_≡_};
 ghost use Prim.Native.Nat.{_+_};
 ghost use Rattle.octets.specs.Field.{field};
-ghost use Rattle.bench.specs.Input.{marked, lengthAllowed, settingsAt, eventAt, takenOf};
+ghost use lib.ListN.{length};
+ghost use Rattle.bench.specs.Input.{marked, lengthAllowed, settingsAt, eventAt, takenOf, bodyOf};
+ghost use Rattle.bench.specs.Run.{leftOf, shiftedOf};
 
 // What stands at the front of the input.
 pub enum Taken {
@@ -101,4 +103,34 @@ pub fn record_length(s: &[u8]) -> usize
     ensures { λ r. ⌜ r ≡ field 2 3 (now (s .entry)) + 5 ⌝ }
 {
     u16_at(s, 3) as usize + 5
+}
+
+// The body of a record whose head is at the front of s.
+pub(crate) fn body(s: &[u8]) -> &[u8]
+    ensures { λ b. ⌜ now b ≡ bodyOf (now (s .entry)) ⌝ }
+{
+    let size = record_length(s);
+    if size <= s.len() {
+        &s[5..size]
+    } else {
+        &s[..0]
+    }
+}
+
+// Moves the octets from `at` to `have` to the front of the buffer, and gives how many there are.
+pub(crate) fn shift(input: &mut [u8], at: usize, have: usize) -> usize
+    ensures { λ n. ⌜ (n ≡ leftOf at have (length (now (input .entry)))) × (now (input .exit) ≡ shiftedOf at have (now (input .entry))) ⌝ }
+{
+    if input.len() < have {
+        return 0;
+    }
+    if have < at {
+        return 0;
+    }
+    let mut i = 0;
+    while i < have - at {
+        input[i] = input[at + i];
+        i += 1;
+    }
+    have - at
 }

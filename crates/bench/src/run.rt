@@ -1,6 +1,8 @@
 // The run over standard input: the octets read, what was taken of them, and the lines not yet written.
 use crate::input::Taken;
+use crate::input::body;
 use crate::input::record_length;
+use crate::input::shift;
 use crate::input::take;
 use crate::lent::lent_play;
 use crate::line::write_line;
@@ -18,10 +20,9 @@ ghost use mathlib.Core.Path.{_≡_};
 ghost use mathlib.Core.Bool.{true};
 ghost use lib.ListN.{length};
 ghost use Rattle.peer.specs.Record.{freeOf};
-ghost use Rattle.bench.specs.Input.{bodyOf};
 ghost use Rattle.table.specs.Step.{stepOf, stepIn};
 ghost use Rattle.bench.specs.Play.{zeros, numberAfter};
-ghost use Rattle.bench.specs.Run.{startOf, behindOf, begunOf, eventOf, eventOutput, flushedOf, stoppedIn, leftOf, shiftedOf};
+ghost use Rattle.bench.specs.Run.{startOf, behindOf, begunOf, eventOf, eventOutput, flushedOf, stoppedIn};
 ghost use Rattle.bench.specs.Turn.{Refilled, Short, TurnOf, Rounded};
 
 // Where a run stands. Of the input buffer the octets from `at` to `have` are still to be taken; of the output buffer the first `out` are
@@ -117,24 +118,6 @@ fn stop(output: &mut [u8], r: Run) -> Run
     finish(output, next)
 }
 
-// Moves the octets from `at` to `have` to the front of the buffer, and gives how many there are.
-fn shift(input: &mut [u8], at: usize, have: usize) -> usize
-    ensures { λ n. ⌜ (n ≡ leftOf at have (length (now (input .entry)))) × (now (input .exit) ≡ shiftedOf at have (now (input .entry))) ⌝ }
-{
-    if input.len() < have {
-        return 0;
-    }
-    if have < at {
-        return 0;
-    }
-    let mut i = 0;
-    while i < have - at {
-        input[i] = input[at + i];
-        i += 1;
-    }
-    have - at
-}
-
 // Reads on behind what is left.
 fn refill(input: &mut [u8], output: &[u8], r: Run) -> Run
     ensures { λ q. ⌜ Refilled (now (input .entry)) r (now (input .exit)) q ⌝ }
@@ -217,18 +200,6 @@ fn event(output: &mut [u8], r: Run, e: Event, frame: &[u8], size: usize) -> Run
     }
     next.out = at;
     next
-}
-
-// The body of a record whose head is at the front of s.
-fn body(s: &[u8]) -> &[u8]
-    ensures { λ b. ⌜ now b ≡ bodyOf (now (s .entry)) ⌝ }
-{
-    let size = record_length(s);
-    if size <= s.len() {
-        &s[5..size]
-    } else {
-        &s[..0]
-    }
 }
 
 // One record, or more input.

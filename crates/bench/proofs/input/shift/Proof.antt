@@ -1,4 +1,4 @@
--- `bench::run::shift` meets its contract: what is moved so far.
+-- `bench::input::shift` meets its contract: what is moved so far.
 -- Assumes nothing.
 use Prim.Native.Nat.{_-_, _≤_}
 use Rattle.bench.proofs.Moves.{Moved, moved-all, moved-none, moved-step, not-within}
@@ -8,8 +8,8 @@ use denote.Ref.{now}
 use lib.ListN.{length}
 use mathlib.Core.Path.{_≡_, refl, sym, _∙_}
 use native.Mathlib.Omega.{arith}
-use Rattle.bench.proofs.run.shift.Statement.{statement}
-use Rattle.bench.proofs.run.shift.Tie as tie
+use Rattle.bench.proofs.input.shift.Statement.{statement}
+use Rattle.bench.proofs.input.shift.Tie as tie
 
 abbrev Inv-loop : tie.InvT-loop
 Inv-loop input₀ at have i₀ input i = (i ≤ have - at) × (have ≤ length input₀) × (at ≤ have) × (Moved input₀ at i input)

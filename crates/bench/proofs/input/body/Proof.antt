@@ -1,4 +1,4 @@
--- `bench::run::body` meets its contract: by its test.
+-- `bench::input::body` meets its contract: by its test.
 -- Assumes nothing.
 use Prim.Native.Nat.{_+_, _-_, _≤_, _<_}
 use Rattle.bench.specs.Input.{bodyOf}
@@ -9,8 +9,8 @@ use denote.Ref.{now}
 use lib.ListN.{length}
 use mathlib.Core.Path.{_≡_}
 use native.Mathlib.Omega.{arith}
-use Rattle.bench.proofs.run.body.Statement.{statement}
-use Rattle.bench.proofs.run.body.Tie as tie
+use Rattle.bench.proofs.input.body.Statement.{statement}
+use Rattle.bench.proofs.input.body.Tie as tie
 
 record-length-requires : tie.Need-record-length-requires
 record-length-requires c κs = search needs
