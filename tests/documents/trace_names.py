@@ -8,7 +8,8 @@ some row.
 """
 
 import re
-import sys
+
+from tests import ending
 
 from . import doc_names, names
 
@@ -90,10 +91,7 @@ def main():
         faults += [f"TRACE.md: no row names the {what} `{name}`"
                    for name in sorted(there_are - used[what])]
     faults += doc_names.faults()
-    for fault in faults:
-        print(fault)
-    print(f"{count} rows, {coming} of them to come, {len(faults)} faults")
-    sys.exit(1 if faults else 0)
+    ending.tell(f"{count} rows, {coming} of them to come", faults)
 
 
 if __name__ == "__main__":

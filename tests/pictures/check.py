@@ -9,8 +9,8 @@ tools/pictures/make.py makes.
 
 import argparse
 import shlex
-import sys
 
+from tests import ending
 from tools import bench_input
 from tools.pictures import make, move_list, scenes
 
@@ -71,10 +71,7 @@ def main():
         faults += [f"{name} is not as tools/pictures/make.py makes it" for name in make.stale()]
     except (move_list.Fault, situations.Trouble) as fault:
         faults.append(str(fault))
-    for fault in faults:
-        print(fault)
-    print(f"{len(scenes.SCENES)} scenes, {len(faults)} faults")
-    sys.exit(1 if faults else 0)
+    ending.tell(f"{len(scenes.SCENES)} scenes", faults)
 
 
 if __name__ == "__main__":

@@ -11,6 +11,7 @@ import argparse
 import shlex
 import sys
 
+from tests import ending
 from tools.pictures import move_list
 
 from . import situations
@@ -80,11 +81,7 @@ def main():
     faults += [f"in the list and never made: {shown(move)}" for move in sorted(wanted - made)]
     faults += [f"class {klass} in state {state}: the list and the program differ"
                for state, klass in sorted(passes ^ in_list)]
-    for fault in faults:
-        print(fault)
-    print(f"{counts[0]} situations, {counts[1]} events tried, {len(made)} moves, "
-          f"{len(faults)} faults")
-    sys.exit(1 if faults else 0)
+    ending.tell(f"{counts[0]} situations, {counts[1]} events tried, {len(made)} moves", faults)
 
 
 if __name__ == "__main__":
