@@ -1,4 +1,4 @@
-/* side.h - one side of the air, access point or scanner: its settings, its table, and the three calls with a printed line each. */
+/* side.h - one side of the air, access point or scanner: its settings, its table, and the three calls with a line said of each. */
 #ifndef SIDE_H
 #define SIDE_H
 
@@ -7,13 +7,16 @@
 struct side {
     const char *name;
     peer_settings settings;
-    peer_record table[PEER_PLACES]; /* all zero: empty */
+    peer_table table; /* all zero: empty */
     uint8_t out[PEER_PASS_OUT_LEAST];
 };
 
-/* Each call prints what was done and what came of it, and gives back the answer. What was written stands in side->out. */
+/* Each call says what was done and what came of it, and gives back the answer. What was written stands in side->out. */
 peer_answer side_receive(struct side *side, const char *what, const uint8_t *frame, size_t octets);
 peer_answer side_ask(struct side *side, const char *what, uint8_t primitive, uint64_t address, uint16_t code);
 peer_answer side_pass(struct side *side, uint16_t step);
+
+/* The side's own address as a number. */
+uint64_t side_address(const struct side *side);
 
 #endif

@@ -2,6 +2,7 @@
 #include "call.h"
 #include "lent.h"
 #include "on_stack.h"
+#include "record.h"
 #include "tally.h"
 
 #include <stdio.h>
@@ -14,17 +15,17 @@ enum {
     CALLER = 256   /* octets of stack for the caller's own frame */
 };
 
-/* What a call leaves: the answer, and all octets of table and out. */
+/* What a call leaves: all octets of table, out and answer. The answer too in the independent program's form: it is what is right. */
 struct outcome {
     struct pt_answer answer;
-    uint8_t table[TABLE_MOST], out[OUT_MOST];
+    uint8_t table[TABLE_MOST], out[OUT_MOST], octets[ANSWER_MOST];
 };
 
 const struct call *volatile call_under_way;
 
 static struct pt_answer independent(const struct call *c, struct pt_record *table, uint8_t *out)
 {
-    struct pt_settings s = settings_of(c->settings);
+    struct pt_settings s = settings_of(&c->settings);
 
     if (c->kind == CALL_RECEIVE)
         return pt_receive(&s, table, c->frame, c->frame_octets, out, c->out_octets);
@@ -33,30 +34,35 @@ static struct pt_answer independent(const struct call *c, struct pt_record *tabl
     return pt_clock(&s, table, c->number, out, c->out_octets);
 }
 
-/* A table that the independent form can't hold is not well formed: refusal 2, after refusal 1. */
-static void expect(const struct call *c, const uint8_t *out, struct outcome *o)
+/* A table or settings that the independent forms can't hold are not well formed: refusal 2, after refusal 1. `o` holds what was lent. */
+static struct pt_answer expected(const struct call *c, struct outcome *o)
 {
     struct pt_record table[PT_PLACES];
-    size_t least = c->kind == CALL_PASS ? PEER_PASS_OUT_LEAST : PEER_OUT_LEAST;
+    struct pt_answer a;
 
+    if (c->answer_octets < PEER_ANSWER_OCTETS || c->out_octets < (c->kind == CALL_PASS ? PEER_PASS_OUT_LEAST : PEER_OUT_LEAST))
+        return pt_refuse(PT_BUFFER);
+    if (c->settings_octets != PEER_SETTINGS_OCTETS || c->table_octets != PEER_TABLE_OCTETS || !table_of(c->table, table))
+        return pt_refuse(PT_ILL_FORMED);
+    a = independent(c, table, o->out);
+    if (a.refusal == PT_DONE)
+        octets_of(table, o->table);
+    return a;
+}
+
+static void expect(const struct call *c, struct outcome *o)
+{
     memcpy(o->table, c->table, c->table_octets);
-    memcpy(o->out, out, c->out_octets);
-    if (c->out_octets < least) {
-        o->answer = pt_refuse(PT_BUFFER);
-    } else if (c->table_octets != PEER_TABLE_OCTETS || !table_of(c->table, table)) {
-        o->answer = pt_refuse(PT_ILL_FORMED);
-    } else {
-        o->answer = independent(c, table, o->out);
-        if (o->answer.refusal == PT_DONE)
-            octets_of(table, o->table);
-    }
+    o->answer = expected(c, o);
+    if (c->answer_octets >= PEER_ANSWER_OCTETS)
+        octets_of_answer(&o->answer, o->octets);
 }
 
 /* One call with the memory that it is lent. */
 struct lent_call {
     const struct call *call;
-    uint8_t *table, *frame, *out;
-    peer_answer answer;
+    uint8_t *table, *settings, *frame, *out, *answer;
+    uint64_t result;
 };
 
 /* Runs on the bounded stack. */
@@ -66,17 +72,14 @@ static void library(void *given)
     const struct call *c = l->call;
 
     if (c->kind == CALL_RECEIVE)
-        l->answer = peer_receive(l->table, c->table_octets, c->settings, l->frame, c->frame_octets, l->out, c->out_octets);
+        l->result = peer_receive_octets(l->table, c->table_octets, l->settings, c->settings_octets, l->frame, c->frame_octets,
+                                        l->out, c->out_octets, l->answer, c->answer_octets);
     else if (c->kind == CALL_ASK)
-        l->answer = peer_ask(l->table, c->table_octets, c->settings, c->primitive, c->address, c->number, l->out, c->out_octets);
+        l->result = peer_ask_octets(l->table, c->table_octets, l->settings, c->settings_octets, c->primitive, c->address, c->number,
+                                    l->out, c->out_octets, l->answer, c->answer_octets);
     else
-        l->answer = peer_pass(l->table, c->table_octets, c->settings, c->number, l->out, c->out_octets);
-}
-
-static void print_answer(const char *who, struct pt_answer a)
-{
-    printf("  %-12s refusal %u, verdict %u, notice %u, code %u, written %u, ds %u, state %u, current %012llx\n", who, a.refusal, a.verdict,
-           a.notice, a.code, a.written, a.ds, a.state, (unsigned long long)a.current);
+        l->result = peer_pass_octets(l->table, c->table_octets, l->settings, c->settings_octets, c->number,
+                                     l->out, c->out_octets, l->answer, c->answer_octets);
 }
 
 static void print_change(const char *what, const uint8_t *is, const uint8_t *wanted, size_t count)
@@ -86,57 +89,60 @@ static void print_change(const char *what, const uint8_t *is, const uint8_t *wan
             printf("  %s octet %zu is %02x, wanted %02x\n", what, i, is[i], wanted[i]);
 }
 
-static struct pt_answer in_other_form(peer_answer a)
-{
-    return (struct pt_answer){ a.current, a.code, a.written, a.refusal, a.verdict, a.notice, a.ds, a.state };
-}
-
 static void differs(const char *what, const struct lent_call *l, const struct outcome *o)
 {
     printf("host: DIFFERENCE: %s\n", what);
     call_print(l->call);
-    print_answer("library", in_other_form(l->answer));
-    print_answer("independent", o->answer);
+    printf("  result %llu, wanted %u\n", (unsigned long long)l->result, o->answer.refusal);
+    print_change("answer", l->answer, o->octets, l->call->answer_octets);
     print_change("table", l->table, o->table, l->call->table_octets);
     print_change("out", l->out, o->out, l->call->out_octets);
     fflush(stdout);
     exit(1);
 }
 
-static void compare(const struct lent_call *l, const struct outcome *o)
+static void compare(const struct lent_call *l, const struct outcome *o, const uint8_t *settings)
 {
     const struct call *c = l->call;
 
-    if (!same_answer(&l->answer, &o->answer))
-        differs("the answer", l, o);
+    if (l->result != o->answer.refusal)
+        differs("the result", l, o);
+    if (memcmp(l->answer, o->octets, c->answer_octets) != 0)
+        differs("the octets of the answer", l, o);
     if (memcmp(l->table, o->table, c->table_octets) != 0)
         differs("the table after the call", l, o);
     if (memcmp(l->out, o->out, c->out_octets) != 0)
         differs("the octets of out", l, o);
-    if (memcmp(l->frame, c->frame, c->frame_octets) != 0)
-        differs("the frame was written to", l, o);
-    if (!lent_round_about(LENT_TABLE) || !lent_round_about(LENT_FRAME) || !lent_round_about(LENT_OUT))
-        differs("octets outside of what was lent were written", l, o);
+    if (memcmp(l->frame, c->frame, c->frame_octets) != 0 || memcmp(l->settings, settings, c->settings_octets) != 0)
+        differs("the frame or the settings were written to", l, o);
+    for (int i = 0; i < LENT_STACK; i++)
+        if (!lent_round_about((enum lent)i))
+            differs("octets outside of what was lent were written", l, o);
 }
 
 struct pt_answer checked(struct call *c, struct chance *chance)
 {
     static struct outcome o;
-    static uint8_t before[OUT_MOST];
+    uint8_t settings[SETTINGS_MOST] = { 0 };
     struct lent_call l = { .call = c };
 
-    draw_octets(chance, before, c->out_octets);
+    memcpy(settings, &c->settings, sizeof c->settings);
+    draw_octets(chance, o.out, c->out_octets);
+    draw_octets(chance, o.octets, c->answer_octets);
     l.table = lend(LENT_TABLE, chance, c->table, c->table_octets);
+    l.settings = lend(LENT_SETTINGS, chance, settings, c->settings_octets);
     l.frame = lend(LENT_FRAME, chance, c->frame, c->frame_octets);
-    l.out = lend(LENT_OUT, chance, before, c->out_octets);
-    expect(c, before, &o);
+    l.out = lend(LENT_OUT, chance, o.out, c->out_octets);
+    l.answer = lend(LENT_ANSWER, chance, o.octets, c->answer_octets);
+    expect(c, &o);
     call_under_way = c;
     if (tally_calls() % 4096 == 0)
         alarm(PATIENCE);
     call_on(lent_stack(PEER_STACK_OCTETS + CALLER), library, &l);
     call_under_way = NULL;
-    compare(&l, &o);
+    compare(&l, &o, settings);
     tally_add(c, &o.answer);
+    record(c, settings, &o.answer, o.table, o.out, o.octets);
     memcpy(c->table, o.table, c->table_octets);
     return o.answer;
 }

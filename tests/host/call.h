@@ -10,11 +10,12 @@ enum call_kind { CALL_RECEIVE, CALL_ASK, CALL_PASS, CALL_KINDS };
 /* What sort of table a call was lent, for the count at the end. */
 enum table_kind { TABLE_CORPUS, TABLE_WALK, TABLE_DRAWN, TABLE_SPOILT, TABLE_RANDOM, TABLE_OF_OTHER_LENGTH, TABLE_KINDS };
 
-enum { TABLE_MOST = 1024, FRAME_MOST = 5000, OUT_MOST = 4200 };
+enum { TABLE_MOST = 1024, SETTINGS_MOST = 64, FRAME_MOST = 5000, OUT_MOST = 4200, ANSWER_MOST = 64 };
 
 struct call {
     enum call_kind kind;
     peer_settings settings;
+    size_t settings_octets; /* lent: so many of the settings' octets, and zeros behind them */
     uint8_t table[TABLE_MOST]; /* after the call: as the call left it */
     size_t table_octets;
     enum table_kind table_kind;
@@ -23,7 +24,7 @@ struct call {
     uint16_t number; /* code or clock step */
     uint8_t frame[FRAME_MOST];
     size_t frame_octets;
-    size_t out_octets;
+    size_t out_octets, answer_octets;
     const char *source; /* where the call comes from, and which one of there */
     unsigned long index;
 };

@@ -11,8 +11,8 @@ enum { HEADER = 5, SETTINGS = 0, PRIMITIVE = 1, FRAME = 2, CLOCK = 3, SCRATCH = 
 /* The bodies' lengths that the bench takes; a frame has any up to 4,096. */
 static bool length_fits(unsigned kind, size_t length)
 {
-    return (kind == SETTINGS && length == 12) || (kind == PRIMITIVE && length == 9) || (kind == FRAME && length <= PT_FRAME_MAX) ||
-           (kind == CLOCK && length == 2);
+    return (kind == SETTINGS && length == PEER_SETTINGS_OCTETS) || (kind == PRIMITIVE && length == 9) ||
+           (kind == FRAME && length <= PT_FRAME_MAX) || (kind == CLOCK && length == 2);
 }
 
 static void take_event(struct call *call, unsigned kind, const uint8_t *body, size_t length)
@@ -32,17 +32,22 @@ static void take_event(struct call *call, unsigned kind, const uint8_t *body, si
 
 static void take_settings(struct call *call, const uint8_t *body)
 {
-    call->settings = (peer_settings){ .role = body[0], .own = pt_get48(body + 1), .rsna = body[7],
-                                      .authentication_timeout = pt_get16(body + 8), .association_timeout = pt_get16(body + 10) };
+    call->settings.role = body[0];
+    memcpy(call->settings.own, body + 1, PEER_ADDRESS_OCTETS);
+    call->settings.rsna = body[7];
+    call->settings.authentication_timeout = pt_get16(body + 8);
+    call->settings.association_timeout = pt_get16(body + 10);
 }
 
-/* The same event with too short a buffer, or over a spoilt copy of the table. It leaves no trace, and the walk goes on. */
+/* The same event with too short a buffer, slices of other lengths, or over a spoilt copy of the table. It leaves no trace, and the walk goes on. */
 static void disturb(const struct call *call, struct chance *chance)
 {
     static struct call other;
 
     other = *call;
-    if (percent(chance, 50)) {
+    if (percent(chance, 20)) {
+        draw_lengths(chance, &other);
+    } else if (percent(chance, 50)) {
         other.out_octets = below(chance, call->kind == CALL_PASS ? PEER_PASS_OUT_LEAST : PEER_OUT_LEAST);
     } else {
         other.table_kind = TABLE_SPOILT;
@@ -99,7 +104,7 @@ bool run_corpus(const char *path, struct chance *chance)
     }
     fclose(file);
     memset(&call, 0, sizeof call);
-    call.table_octets = PEER_TABLE_OCTETS;
+    lend_usual(&call);
     call.table_kind = TABLE_CORPUS;
     call.source = path;
     play(octets, count, &call, chance);

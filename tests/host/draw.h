@@ -10,6 +10,11 @@ uint64_t pool_address(unsigned number);
 uint64_t draw_address(struct chance *c, uint64_t own); /* mostly of the pool; own, group, zero and over 2^48 too */
 peer_settings draw_settings(struct chance *c, uint8_t role);
 void spoil_settings(struct chance *c, peer_settings *s);
+uint64_t own_of(const struct call *call);
+
+/* Table, settings and answer of the lengths that a host has. Then now and then another length of settings or answer. */
+void lend_usual(struct call *call);
+void draw_lengths(struct chance *c, struct call *call);
 
 /* A well-formed table, crowded or not; then one with a single field spoilt. */
 void draw_table(struct chance *c, const peer_settings *s, uint8_t *octets);

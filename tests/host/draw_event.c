@@ -69,7 +69,7 @@ void draw_frame(struct chance *c, struct call *call, uint64_t peer)
 
     draw_octets(c, frame, 96);
     frame[0] = (uint8_t)(type << 2 | subtype << 4 | (percent(c, 97) ? 0 : below(c, 4)));
-    pt_put48(frame + 4, receiver(c, call->settings.own));
+    pt_put48(frame + 4, receiver(c, own_of(call)));
     pt_put48(frame + 10, peer);
     if (type == MANAGEMENT && subtype == PT_ACTION)
         frame[24] = ONE_OF(c, categories);
@@ -106,7 +106,7 @@ size_t draw_out(struct chance *c, enum call_kind kind)
 void draw_event(struct chance *c, struct call *call)
 {
     static const uint16_t steps[] = { 1, 1, 1, 2, 5, 40, 1953, 1954, 65535, 0 };
-    uint64_t peer = draw_address(c, call->settings.own);
+    uint64_t peer = draw_address(c, own_of(call));
     unsigned kind = below(c, 100);
 
     call->kind = kind < 55 ? CALL_RECEIVE : kind < 92 ? CALL_ASK : CALL_PASS;

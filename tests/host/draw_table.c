@@ -23,18 +23,18 @@ peer_settings draw_settings(struct chance *c, uint8_t role)
 {
     static const uint16_t timeouts[] = { 1, 2, 3, 10, 100, 1000, 1954, 65534, 65535 };
 
-    return (peer_settings){ .own = 0x0a0000000002u, .authentication_timeout = ONE_OF(c, timeouts),
+    return (peer_settings){ .own = { 2, 0, 0, 0, 0, 0x0a }, .authentication_timeout = ONE_OF(c, timeouts),
                             .association_timeout = ONE_OF(c, timeouts), .role = role, .rsna = (uint8_t)below(c, 2) };
 }
 
 void spoil_settings(struct chance *c, peer_settings *s)
 {
-    static const uint64_t owns[] = { 0, 1, 0xffffffffffffu, 0x1000000000000u, 0x8000000000000002u };
+    static const uint64_t owns[] = { 0, 1, 0xffffffffffffu, 0x0a0000000003u };
     static const uint8_t roles[] = { 0, 3, 4, 128, 255 };
 
     switch (below(c, 5)) {
     case 0:
-        s->own = ONE_OF(c, owns);
+        pt_put48(s->own, ONE_OF(c, owns));
         break;
     case 1:
         s->authentication_timeout = 0;
@@ -48,6 +48,28 @@ void spoil_settings(struct chance *c, peer_settings *s)
     default:
         s->rsna = (uint8_t)(2 + below(c, 254));
     }
+}
+
+uint64_t own_of(const struct call *call)
+{
+    return pt_get48(call->settings.own);
+}
+
+void lend_usual(struct call *call)
+{
+    call->table_octets = PEER_TABLE_OCTETS;
+    call->settings_octets = PEER_SETTINGS_OCTETS;
+    call->answer_octets = PEER_ANSWER_OCTETS;
+}
+
+void draw_lengths(struct chance *c, struct call *call)
+{
+    static const size_t settings[] = { 0, 1, 8, 10, 11, 13, 14, 16, 18, 24, 64 }, answers[] = { 0, 1, 12, 16, 23, 24, 25, 32, 64 };
+
+    if (percent(c, 60))
+        call->settings_octets = ONE_OF(c, settings);
+    if (percent(c, 60))
+        call->answer_octets = ONE_OF(c, answers);
 }
 
 static void draw_exchange(struct chance *c, const peer_settings *s, struct pt_record *r, bool *associating)
@@ -96,7 +118,7 @@ void spoil_table(struct chance *c, const peer_settings *s, uint8_t *octets)
     static const uint64_t odd[] = { 0, 1, 0xffffffffffffu, 0x1000000000000u, 0x2000000000002u, 0xffffffffffffffffu };
     static const uint8_t states[] = { 0, 5, 6, 128, 255 };
     uint8_t *r = octets + PEER_RECORD_OCTETS * below(c, PT_PLACES), *other = octets + PEER_RECORD_OCTETS * below(c, PT_PLACES);
-    uint64_t address = percent(c, 30) ? s->own : ONE_OF(c, odd);
+    uint64_t address = percent(c, 30) ? pt_get48(s->own) : ONE_OF(c, odd);
 
     switch (below(c, 8)) {
     case 0:

@@ -1,6 +1,8 @@
 /* forms.c - table, settings and answer from one form to the other, field by field and octet by octet. */
 #include "forms.h"
 
+#include <string.h>
+
 enum { PHASES = 3, EXCHANGES = 10 };
 
 /* A record's octets: address 8, hold 4, left 2, state 1, exchange 1, little-endian. */
@@ -44,18 +46,24 @@ bool table_of(const uint8_t *octets, struct pt_record *table)
     return held;
 }
 
-struct pt_settings settings_of(peer_settings settings)
+struct pt_settings settings_of(const peer_settings *settings)
 {
     return (struct pt_settings){
-        .own = settings.own, .role = settings.role, .rsna = settings.rsna,
-        .auth_timeout = settings.authentication_timeout, .assoc_timeout = settings.association_timeout,
+        .own = pt_get48(settings->own), .role = settings->role, .rsna = settings->rsna,
+        .auth_timeout = settings->authentication_timeout, .assoc_timeout = settings->association_timeout,
     };
 }
 
-bool same_answer(const peer_answer *library, const struct pt_answer *independent)
+void octets_of_answer(const struct pt_answer *a, uint8_t *p)
 {
-    return library->current == independent->current && library->code == independent->code &&
-           library->written == independent->written && library->refusal == independent->refusal &&
-           library->verdict == independent->verdict && library->notice == independent->notice &&
-           library->ds == independent->ds && library->state == independent->state;
+    memset(p, 0, PEER_ANSWER_OCTETS);
+    for (int i = 0; i < 8; i++)
+        p[i] = (uint8_t)(a->current >> (8 * i));
+    pt_put16(p + 8, a->code);
+    pt_put16(p + 10, a->written);
+    p[12] = a->refusal;
+    p[13] = a->verdict;
+    p[14] = a->notice;
+    p[15] = a->ds;
+    p[16] = a->state;
 }

@@ -11,8 +11,9 @@ void octets_of(const struct pt_record *table, uint8_t *octets);
 /* Reads 512 octets; false where a place has an exchange number that the independent form can't hold. */
 bool table_of(const uint8_t *octets, struct pt_record *table);
 
-struct pt_settings settings_of(peer_settings settings);
+struct pt_settings settings_of(const peer_settings *settings);
 
-bool same_answer(const peer_answer *library, const struct pt_answer *independent);
+/* Writes the 24 octets of an answer. */
+void octets_of_answer(const struct pt_answer *answer, uint8_t *octets);
 
 #endif

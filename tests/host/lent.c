@@ -1,4 +1,4 @@
-/* lent.c - one area for each of table, frame, out and stack: a page without access, the room, a page without access. A read or write
+/* lent.c - one area for each thing lent, and for the stack: a page without access, the room, a page without access. A read or write
    beyond the lent octets ends in a fault at once, or changes a guard octet, which is seen after the call. */
 #define _DEFAULT_SOURCE
 #include "lent.h"

@@ -4,7 +4,7 @@
 
 #include "chance.h"
 
-enum lent { LENT_TABLE, LENT_FRAME, LENT_OUT, LENT_STACK, LENT_ALL };
+enum lent { LENT_TABLE, LENT_SETTINGS, LENT_FRAME, LENT_OUT, LENT_ANSWER, LENT_STACK, LENT_ALL };
 
 enum { LENT_MOST = 8192 };
 

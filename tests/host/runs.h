@@ -13,7 +13,7 @@ void run_walk(unsigned long number, unsigned long calls, struct chance *chance);
 /* One call on a table drawn for it: well formed, spoilt, random or of another length; now and then settings out of range. */
 void run_shot(unsigned long number, struct chance *chance);
 
-/* Every exchange number, state, buffer length, frame length, primitive, table length and setting near its limits. */
+/* Every exchange number, state, primitive, length of what is lent, and setting near its limits. */
 void run_sweeps(struct chance *chance);
 
 #endif

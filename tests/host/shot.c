@@ -32,7 +32,7 @@ void run_shot(unsigned long number, struct chance *c)
     unsigned sort = below(c, 100);
 
     call.settings = draw_settings(c, percent(c, 50) ? PEER_AP : PEER_STATION);
-    call.table_octets = PEER_TABLE_OCTETS;
+    lend_usual(&call);
     call.table_kind = TABLE_DRAWN;
     call.source = "the single shots";
     call.index = number + 1;
@@ -48,5 +48,7 @@ void run_shot(unsigned long number, struct chance *c)
     draw_event(c, &call);
     if (percent(c, 6))
         spoil_settings(c, &call.settings);
+    if (percent(c, 6))
+        draw_lengths(c, &call);
     checked(&call, c);
 }

@@ -16,12 +16,13 @@ static void print_hex(const char *what, const uint8_t *p, size_t count)
 
 void call_print(const struct call *c)
 {
-    static const char *const names[CALL_KINDS] = { "peer_receive", "peer_ask", "peer_pass" };
+    static const char *const names[CALL_KINDS] = { "peer_receive_octets", "peer_ask_octets", "peer_pass_octets" };
     const peer_settings *s = &c->settings;
 
-    printf("  %s, call %lu of %s, out of %zu octets\n", names[c->kind], c->index, c->source, c->out_octets);
-    printf("  settings: own %012llx, timeouts %u and %u, role %u, rsna %u\n", (unsigned long long)s->own, s->authentication_timeout,
-           s->association_timeout, s->role, s->rsna);
+    printf("  %s, call %lu of %s, out of %zu octets, answer of %zu\n", names[c->kind], c->index, c->source, c->out_octets,
+           c->answer_octets);
+    printf("  settings of %zu octets: role %u, own %012llx, rsna %u, timeouts %u and %u\n", c->settings_octets, s->role,
+           (unsigned long long)pt_get48(s->own), s->rsna, s->authentication_timeout, s->association_timeout);
     if (c->kind == CALL_ASK)
         printf("  primitive %u, address %012llx, code %u\n", c->primitive, (unsigned long long)c->address, c->number);
     if (c->kind == CALL_PASS)

@@ -11,7 +11,7 @@ static void fresh(struct chance *c, enum call_kind kind, uint8_t role, const cha
 {
     memset(&call, 0, sizeof call);
     call.settings = draw_settings(c, role);
-    call.table_octets = PEER_TABLE_OCTETS;
+    lend_usual(&call);
     call.table_kind = TABLE_DRAWN;
     call.source = source;
     draw_table(c, &call.settings, call.table);
@@ -59,6 +59,25 @@ static void sweep_lengths(struct chance *c, enum call_kind kind, uint8_t role)
         call.table_kind = call.table_octets == PEER_TABLE_OCTETS ? TABLE_DRAWN : TABLE_OF_OTHER_LENGTH;
         call.out_octets = outs[i % 5];
         made(c, call.table_octets);
+    }
+}
+
+/* Settings and answers of every length near theirs; with a table or a buffer at fault too, so that the order of refusals is seen. */
+static void sweep_slices(struct chance *c, enum call_kind kind, uint8_t role)
+{
+    for (unsigned i = 0; i < 8 * SETTINGS_MOST; i++) {
+        fresh(c, kind, role, "the sweep of lengths of settings and answer");
+        if (i % 2)
+            call.settings_octets = i / 8;
+        else
+            call.answer_octets = i / 8;
+        if (i / 2 % 2)
+            call.out_octets = below(c, PEER_OUT_LEAST);
+        if (i / 4 % 2) {
+            call.table_kind = TABLE_SPOILT;
+            spoil_table(c, &call.settings, call.table);
+        }
+        made(c, i / 8);
     }
 }
 
@@ -134,6 +153,7 @@ void run_sweeps(struct chance *c)
         for (int kind = 0; kind < CALL_KINDS; kind++) {
             sweep_octet(c, (enum call_kind)kind, role);
             sweep_lengths(c, (enum call_kind)kind, role);
+            sweep_slices(c, (enum call_kind)kind, role);
             sweep_settings(c, (enum call_kind)kind, role);
         }
         sweep_frames(c, role);

@@ -8,12 +8,10 @@ enum { DATA = 2, MANAGEMENT = 0 };
 
 static void next_frame(struct chance *c, struct call *call, unsigned type, unsigned subtype, size_t length)
 {
-    uint64_t own = call->settings.own;
-
     call->kind = CALL_RECEIVE;
     draw_octets(c, call->frame, length);
     call->frame[0] = (uint8_t)(type << 2 | subtype << 4);
-    pt_put48(call->frame + 4, own);
+    pt_put48(call->frame + 4, own_of(call));
     pt_put48(call->frame + 10, call->address);
     pt_put16(call->frame + 24, 0);
     pt_put16(call->frame + 26, subtype == PT_AUTH ? call->settings.role : 0); /* an AP is asked by transaction 1, a station answered by 2 */
@@ -102,7 +100,7 @@ void run_walk(unsigned long number, unsigned long calls, struct chance *c)
 
     memset(&call, 0, sizeof call);
     call.settings = draw_settings(c, number % 2 ? PEER_AP : PEER_STATION);
-    call.table_octets = PEER_TABLE_OCTETS;
+    lend_usual(&call);
     call.table_kind = TABLE_WALK;
     call.source = "the walks";
     if (percent(c, 25))

@@ -1,12 +1,10 @@
 /* main.c - the measured program.
  *   speed list                     the streams and their calls
  *   speed time STREAM              nanoseconds a call: library, independent
- *   speed count STREAM WHO ROUNDS  plays and prints nothing, for a counter of instructions: WHO is nothing, library or independent
- *   speed stack                    octets of stack that each exported function used at most, over all streams
+ *   speed count STREAM WHO ROUNDS  plays and prints nothing, for a counter: WHO is nothing, library or independent
  * Every run first compares the two on the stream; a difference ends it with status 1, wrong words with 2. */
 #define _POSIX_C_SOURCE 200809L
 #include "play.h"
-#include "stack.h"
 
 #include <stdio.h>
 #include <stdlib.h>
@@ -80,23 +78,10 @@ static int count(const char *name, const char *who, const char *rounds)
     return 2;
 }
 
-static int stack(void)
-{
-    for (size_t i = 0; i < stream_total; i++) {
-        if (!made(stream_names[i]))
-            return 1;
-        stack_watched(&stream);
-    }
-    stack_print();
-    return 0;
-}
-
 int main(int argc, char **argv)
 {
     if (argc == 2 && strcmp(argv[1], "list") == 0)
         return list();
-    if (argc == 2 && strcmp(argv[1], "stack") == 0)
-        return stack();
     if (argc == 3 && strcmp(argv[1], "time") == 0) {
         if (!made(argv[2]))
             return 1;
@@ -105,6 +90,6 @@ int main(int argc, char **argv)
     }
     if (argc == 5 && strcmp(argv[1], "count") == 0)
         return count(argv[2], argv[3], argv[4]);
-    fprintf(stderr, "speed: list | time STREAM | count STREAM WHO ROUNDS | stack\n");
+    fprintf(stderr, "speed: list | time STREAM | count STREAM WHO ROUNDS\n");
     return 2;
 }

@@ -6,17 +6,17 @@
 
 enum { OUT = 256 };
 
-static uint8_t octets[PEER_TABLE_OCTETS], first_octets[PEER_TABLE_OCTETS];
+static peer_table lent, first_lent;
 static struct pt_record table[PT_PLACES], first_table[PT_PLACES];
 static uint8_t out[OUT], other_out[OUT];
 
-static peer_answer by_library(peer_settings s, const struct event *e)
+static peer_answer by_library(const peer_settings *s, const struct event *e)
 {
     if (e->kind == EVENT_FRAME)
-        return peer_receive(octets, sizeof octets, s, e->frame, e->length, out, sizeof out);
+        return peer_receive(&lent, s, e->frame, e->length, out, sizeof out);
     if (e->kind == EVENT_PRIMITIVE)
-        return peer_ask(octets, sizeof octets, s, e->primitive, e->address, e->number, out, sizeof out);
-    return peer_pass(octets, sizeof octets, s, e->number, out, sizeof out);
+        return peer_ask(&lent, s, e->primitive, e->address, e->number, out, sizeof out);
+    return peer_pass(&lent, s, e->number, out, sizeof out);
 }
 
 static struct pt_answer by_independent(const struct pt_settings *s, const struct event *e, uint8_t *to)
@@ -30,22 +30,23 @@ static struct pt_answer by_independent(const struct pt_settings *s, const struct
 
 static bool one_compared(const struct stream *stream, const struct event *e)
 {
-    struct pt_settings s = settings_of(stream->settings);
-    uint8_t wanted[PEER_TABLE_OCTETS];
-    peer_answer a = by_library(stream->settings, e);
+    struct pt_settings s = settings_of(&stream->settings);
+    uint8_t wanted[PEER_TABLE_OCTETS], answer[PEER_ANSWER_OCTETS];
+    peer_answer a = by_library(&stream->settings, e);
     struct pt_answer b = by_independent(&s, e, other_out);
 
     octets_of(table, wanted);
-    return same_answer(&a, &b) && memcmp(octets, wanted, sizeof octets) == 0 && memcmp(out, other_out, OUT) == 0;
+    octets_of_answer(&b, answer);
+    return memcmp(&a, answer, sizeof a) == 0 && memcmp(&lent, wanted, sizeof lent) == 0 && memcmp(out, other_out, OUT) == 0;
 }
 
 bool play_compared(const char *name, const struct stream *stream)
 {
-    memset(octets, 0, sizeof octets);
+    memset(&lent, 0, sizeof lent);
     memset(table, 0, sizeof table);
     for (size_t i = 0; i < stream->setup + stream->count; i++) {
         if (i == stream->setup) {
-            memcpy(first_octets, octets, sizeof octets);
+            first_lent = lent;
             memcpy(first_table, table, sizeof table);
         }
         if (!one_compared(stream, &stream->events[i])) {
@@ -62,7 +63,7 @@ bool play_compared(const char *name, const struct stream *stream)
 static __attribute__((noinline)) void round_of_library(const struct stream *stream)
 {
     for (size_t i = 0; i < stream->count; i++) {
-        peer_answer a = by_library(stream->settings, &stream->events[stream->setup + i]);
+        peer_answer a = by_library(&stream->settings, &stream->events[stream->setup + i]);
         KEPT(a);
     }
 }
@@ -93,10 +94,10 @@ static __attribute__((noinline)) void round_of_nothing(const struct stream *stre
 /* Each round brings both tables back, whoever plays, so that this cost is the same for all three. */
 void play(enum player player, const struct stream *stream, unsigned rounds)
 {
-    struct pt_settings s = settings_of(stream->settings);
+    struct pt_settings s = settings_of(&stream->settings);
 
     for (unsigned round = 0; round < rounds; round++) {
-        memcpy(octets, first_octets, sizeof octets);
+        lent = first_lent;
         memcpy(table, first_table, sizeof table);
         if (player == PLAY_LIBRARY)
             round_of_library(stream);

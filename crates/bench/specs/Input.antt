@@ -7,7 +7,7 @@ use lib.Dec.{ltb, leb, eqb}
 use lib.ListN.{length, take, drop}
 use Rattle.octets.specs.Pick.{pick}
 use Rattle.octets.specs.Field.{field}
-use Rattle.peer.specs.declared.settings.Settings.{Settings}
+use Rattle.table.specs.Boundary.{settingsIn}
 use Rattle.table.specs.declared.rules.event.Event.{Event}
 use Rattle.table.specs.declared.rules.event.Event.the-variants.{Frame, Ask, Clock}
 use Rattle.bench.specs.declared.input.Taken.{Taken}
@@ -25,21 +25,17 @@ eventLength kind size =
 unfoldable pub lengthAllowed : Bool → ℕ → ℕ → Bool
 lengthAllowed first kind size = pick first (eqb kind 0 && eqb size 12) (eventLength kind size)
 
--- "role, own address, RSNA 0/1, two timeouts"
-unfoldable pub settingsAt : List ℕ → Settings
-settingsAt xs =
-    record {
-      own = field 6 6 xs;
-      authentication = field 2 13 xs;
-      association = field 2 15 xs;
-      role = field 1 5 xs;
-      rsna = field 1 12 xs;
-    }
-
 -- "primitive, address, code"; a frame; a clock step
 unfoldable pub eventAt : List ℕ → ℕ → Event
 eventAt xs kind =
     pick (eqb kind 1) (Ask (field 1 5 xs) (field 6 6 xs) (field 2 12 xs)) (pick (eqb kind 2) Frame (Clock (field 2 5 xs)))
+
+-- The octets of a record: its head of 5 and its body. Its body, none where it is not there whole.
+abbrev pub sizeOf : List ℕ → ℕ
+sizeOf xs = field 2 3 xs + 5
+
+unfoldable pub bodyOf : List ℕ → List ℕ
+bodyOf xs = pick (leb (sizeOf xs) (length xs)) (take (field 2 3 xs) (drop 5 xs)) []
 
 -- What stands at the front of the input. "A fault in mark, kind or length, or a cut record"
 unfoldable pub takenOf : List ℕ → Bool → Taken
@@ -48,11 +44,4 @@ takenOf xs first =
     (pick (not (marked xs)) Fault
     (pick (not (lengthAllowed first (field 1 2 xs) (field 2 3 xs))) Fault
     (pick (ltb (length xs - 5) (field 2 3 xs)) Cut
-    (pick first (First (settingsAt xs)) (Next (eventAt xs (field 1 2 xs)))))))
-
--- The octets of a record: its head of 5 and its body. Its body, none where it is not there whole.
-abbrev pub sizeOf : List ℕ → ℕ
-sizeOf xs = field 2 3 xs + 5
-
-unfoldable pub bodyOf : List ℕ → List ℕ
-bodyOf xs = pick (leb (sizeOf xs) (length xs)) (take (field 2 3 xs) (drop 5 xs)) []
+    (pick first (First (settingsIn (bodyOf xs))) (Next (eventAt xs (field 1 2 xs)))))))

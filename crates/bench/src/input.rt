@@ -3,12 +3,13 @@ use octets::field::address_at;
 use octets::field::octet_at;
 use octets::field::u16_at;
 use peer::settings::Settings;
+use table::host::settings::settings_in;
 use table::rules::event::Event;
 ghost use mathlib.Core.Path.{_≡_};
 ghost use Prim.Native.Nat.{_+_};
 ghost use Rattle.octets.specs.Field.{field};
 ghost use lib.ListN.{length};
-ghost use Rattle.bench.specs.Input.{marked, lengthAllowed, settingsAt, eventAt, takenOf, bodyOf};
+ghost use Rattle.bench.specs.Input.{marked, lengthAllowed, eventAt, takenOf, bodyOf};
 ghost use Rattle.bench.specs.Run.{leftOf, shiftedOf};
 
 // What stands at the front of the input.
@@ -42,19 +43,6 @@ fn length_allowed(first: bool, kind: u8, size: u16) -> bool
             3 => size == 2,
             _ => false,
         }
-    }
-}
-
-// The settings of a record of 12 octets: role, own address, RSNA, two timeouts.
-fn settings_at(s: &[u8]) -> Settings
-    ensures { λ r. ⌜ r ≡ settingsAt (now (s .entry)) ⌝ }
-{
-    Settings {
-        own: address_at(s, 6),
-        authentication: u16_at(s, 13),
-        association: u16_at(s, 15),
-        role: octet_at(s, 5),
-        rsna: octet_at(s, 12),
     }
 }
 
@@ -92,7 +80,7 @@ pub fn take(s: &[u8], first: bool) -> Taken
         return Taken::Cut;
     }
     if first {
-        Taken::First(settings_at(s))
+        Taken::First(settings_in(body(s)))
     } else {
         Taken::Next(event_at(s, kind))
     }

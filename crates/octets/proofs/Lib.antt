@@ -10,3 +10,4 @@ pub mod Stores
 pub mod Lengths
 pub mod RoundTrip
 pub mod RowTrip
+pub mod AnswerTrip

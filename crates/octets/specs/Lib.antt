@@ -8,6 +8,7 @@ pub mod Shape
 pub mod Stored
 pub mod Frame
 pub mod Report
+pub mod Answer
 pub mod Row
 pub mod Read
 pub mod Examples

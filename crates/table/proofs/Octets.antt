@@ -4,4 +4,6 @@ pub mod RecordTrip
 pub mod Standings
 pub mod Surveys
 pub mod HostLaws
+pub mod BoundaryLaws
 pub mod CallsInRow
+pub mod OrderOctets

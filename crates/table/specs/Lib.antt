@@ -12,10 +12,11 @@ pub mod Step
 pub mod Lent
 pub mod Rows
 pub mod Host
+pub mod Boundary
 pub mod Case
 pub mod Marked
 pub mod Exactly
 pub mod Written
 pub mod Order
-pub mod Calls
 pub mod Meant
+pub mod Calls

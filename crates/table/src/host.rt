@@ -1,5 +1,7 @@
 // The table held as the octets of a host, and the calls that C sees.
+pub mod boundary;
 pub mod calls;
 pub mod rows;
+pub mod settings;
 pub mod standing;
 pub mod survey;

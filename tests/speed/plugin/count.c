@@ -1,6 +1,7 @@
-/* count.c - a plugin of qemu-user (7.2 and later, plugin interface 1): counts the instructions that a program executes, exact and
-   repeatable, whatever else the machine does. Prints 'instructions N' at the end; with the argument 'by=function' a line for each
-   function too. The interface is declared here, since Debian's qemu-user comes without its header. */
+/* count.c - a plugin of qemu-user (7.2 and later, plugin interface 1): counts the instructions that a program executes and the branches
+   that it takes, calls and returns among them, exact and repeatable, whatever else the machine does. Prints 'instructions N' and
+   'taken N' at the end; with the argument 'by=function' the instructions of each function too. The interface is declared here, since
+   Debian's qemu-user comes without its header. */
 #define _POSIX_C_SOURCE 200809L
 #include <inttypes.h>
 #include <stddef.h>
@@ -15,9 +16,13 @@ typedef struct { const char *target_name; struct { int min, cur; } version; _Boo
 enum qemu_plugin_op { QEMU_PLUGIN_INLINE_ADD_U64 };
 void qemu_plugin_register_vcpu_tb_trans_cb(qemu_plugin_id_t, void (*)(qemu_plugin_id_t, struct qemu_plugin_tb *));
 void qemu_plugin_register_vcpu_tb_exec_inline(struct qemu_plugin_tb *, enum qemu_plugin_op, void *, uint64_t);
+enum qemu_plugin_cb_flags { QEMU_PLUGIN_CB_NO_REGS };
+void qemu_plugin_register_vcpu_tb_exec_cb(struct qemu_plugin_tb *, void (*)(unsigned, void *), enum qemu_plugin_cb_flags, void *);
 void qemu_plugin_register_atexit_cb(qemu_plugin_id_t, void (*)(qemu_plugin_id_t, void *), void *);
 size_t qemu_plugin_tb_n_insns(const struct qemu_plugin_tb *);
 struct qemu_plugin_insn *qemu_plugin_tb_get_insn(const struct qemu_plugin_tb *, size_t);
+uint64_t qemu_plugin_insn_vaddr(const struct qemu_plugin_insn *);
+size_t qemu_plugin_insn_size(const struct qemu_plugin_insn *);
 const char *qemu_plugin_insn_symbol(const struct qemu_plugin_insn *);
 
 #define SHOWN __attribute__((visibility("default")))
@@ -27,8 +32,35 @@ enum { FUNCTIONS = 4096 };
 struct function { char *name; uint64_t instructions; };
 static struct function functions[FUNCTIONS];
 static size_t function_count;
-static uint64_t instructions;
+static uint64_t instructions, taken;
+static uint64_t behind_last; /* the address behind the block that ran last */
 static _Bool by_function;
+
+/* A run of straight-line code, as the emulator cuts it: its first address, and the one behind its last instruction. */
+struct block { uint64_t first, behind; };
+
+/* A block that does not begin where the last one ended was branched to. */
+static void entered(unsigned processor, void *given)
+{
+    const struct block *block = given;
+
+    (void)processor;
+    taken += block->first != behind_last;
+    behind_last = block->behind;
+}
+
+/* Lives as long as the program runs: the emulator may come back to it at any time. */
+static struct block *block_of(const struct qemu_plugin_tb *tb, size_t length)
+{
+    const struct qemu_plugin_insn *last = qemu_plugin_tb_get_insn(tb, length - 1);
+    struct block *block = malloc(sizeof *block);
+
+    if (!block)
+        abort();
+    block->first = qemu_plugin_insn_vaddr(qemu_plugin_tb_get_insn(tb, 0));
+    block->behind = qemu_plugin_insn_vaddr(last) + qemu_plugin_insn_size(last);
+    return block;
+}
 
 /* The counter of the function that a block starts in; the last one takes all that find no room. */
 static struct function *function_of(const struct qemu_plugin_tb *block)
@@ -50,6 +82,7 @@ static void translated(qemu_plugin_id_t id, struct qemu_plugin_tb *block)
 
     (void)id;
     qemu_plugin_register_vcpu_tb_exec_inline(block, QEMU_PLUGIN_INLINE_ADD_U64, &instructions, length);
+    qemu_plugin_register_vcpu_tb_exec_cb(block, entered, QEMU_PLUGIN_CB_NO_REGS, block_of(block, length));
     if (by_function)
         qemu_plugin_register_vcpu_tb_exec_inline(block, QEMU_PLUGIN_INLINE_ADD_U64, &function_of(block)->instructions, length);
 }
@@ -65,7 +98,7 @@ static void ended(qemu_plugin_id_t id, void *nothing)
 {
     (void)id;
     (void)nothing;
-    fprintf(stderr, "instructions %" PRIu64 "\n", instructions);
+    fprintf(stderr, "instructions %" PRIu64 "\ntaken %" PRIu64 "\n", instructions, taken);
     qsort(functions, function_count, sizeof *functions, more_first);
     for (size_t i = 0; i < function_count; i++)
         fprintf(stderr, "function %s %" PRIu64 "\n", functions[i].name, functions[i].instructions);

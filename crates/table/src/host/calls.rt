@@ -1,4 +1,4 @@
-// The boundary to C: the three calls over a table of 512 octets. `include/peer_table.h` declares them.
+// The three calls over a table of 512 octets, as a host lends it; settings and answer by value.
 use crate::host::rows::clock;
 use crate::host::rows::find;
 use crate::host::rows::met;
@@ -79,13 +79,7 @@ fn asked_in(s: Settings, table: &[u8], o: Others, primitive: u8, address: u64, c
 }
 
 // A received frame.
-#[no_mangle]
-pub extern "C" fn peer_receive(
-    table: &mut [u8],
-    s: Settings,
-    frame: &[u8],
-    out: &mut [u8],
-) -> Answer
+pub fn receive(table: &mut [u8], s: Settings, frame: &[u8], out: &mut [u8]) -> Answer
     ensures { λ r. ⌜ (r ≡ hostAnswer (now (table .entry)) s event.Frame (now (frame .entry)) (now (out .entry))) × (now (table .exit) ≡ hostTable (now (table .entry)) s event.Frame (now (frame .entry)) (now (out .entry))) × (now (out .exit) ≡ hostIn (now (table .entry)) s event.Frame (now (frame .entry)) (now (out .entry))) ⌝ }
 {
     if out.len() < Frame::LONGEST {
@@ -106,8 +100,7 @@ pub extern "C" fn peer_receive(
 }
 
 // A primitive from our own side.
-#[no_mangle]
-pub extern "C" fn peer_ask(
+pub fn ask(
     table: &mut [u8],
     s: Settings,
     primitive: u8,
@@ -136,8 +129,7 @@ pub extern "C" fn peer_ask(
 }
 
 // A clock step in TU.
-#[no_mangle]
-pub extern "C" fn peer_pass(table: &mut [u8], s: Settings, step: u16, out: &mut [u8]) -> Answer
+pub fn pass(table: &mut [u8], s: Settings, step: u16, out: &mut [u8]) -> Answer
     ensures { λ r. ⌜ (r ≡ hostAnswer (now (table .entry)) s (event.Clock step) [] (now (out .entry))) × (now (table .exit) ≡ hostTable (now (table .entry)) s (event.Clock step) [] (now (out .entry))) × (now (out .exit) ≡ hostIn (now (table .entry)) s (event.Clock step) [] (now (out .entry))) ⌝ }
 {
     if out.len() < 256 {

@@ -43,15 +43,18 @@ returns-4 : tie.Need-returns-4
 unfolding takenOf
 returns-4 c = search (tests, c .before .if3 .taken, ← c .before .before .length-allowed .ensures, ← c .before .before .before .u16-at .ensures, ← c .before .before .before .before .octet-at .ensures, c .before .before .before .before .before .if2 .taken, ← c .before .before .before .before .before .before .is-marked .ensures)
 
-settings-at-requires : tie.Need-settings-at-requires
-settings-at-requires c κs = search needs
+body-requires : tie.Need-body-requires
+body-requires c κs = search needs
+
+settings-in-requires : tie.Need-settings-in-requires
+settings-in-requires c κs = search needs
 
 event-at-requires : tie.Need-event-at-requires
 event-at-requires c κs = search needs
 
 returns-5 : tie.Need-returns-5
 unfolding takenOf
-returns-5 c = rw (le-ltb _ _ (c .before .before .before .before .before .before .before .before .before .if1 .left), ← c .before .before .before .before .before .before .before .before .is-marked .ensures, c .before .before .before .before .before .before .before .if2 .taken, ← c .before .before .before .before .before .before .octet-at .ensures, ← c .before .before .before .before .before .u16-at .ensures, ← c .before .before .before .before .length-allowed .ensures, c .before .before .before .if3 .taken, le-ltb _ _ (c .before .before .if4 .left), c .before .if5 .taken) (ap First (c .settings-at .ensures))
+returns-5 c = rw (le-ltb _ _ (c .before .before .before .before .before .before .before .before .before .before .if1 .left), ← c .before .before .before .before .before .before .before .before .before .is-marked .ensures, c .before .before .before .before .before .before .before .before .if2 .taken, ← c .before .before .before .before .before .before .before .octet-at .ensures, ← c .before .before .before .before .before .before .u16-at .ensures, ← c .before .before .before .before .before .length-allowed .ensures, c .before .before .before .before .if3 .taken, le-ltb _ _ (c .before .before .before .if4 .left), c .before .before .if5 .taken) (ap First (rw (c .before .body .ensures) at (c .settings-in .ensures)))
 
 returns-6 : tie.Need-returns-6
 unfolding takenOf
@@ -71,7 +74,8 @@ take-spec =
     sub-if4
     cast-if4
     returns-4
-    settings-at-requires
+    body-requires
+    settings-in-requires
     event-at-requires
     returns-5
     returns-6)

@@ -1,4 +1,4 @@
--- `table::host::calls::peer_receive` meets its contract: each answer by the tests that led to it and what its callees ensure.
+-- `table::host::calls::receive` meets its contract: each answer by the tests that led to it and what its callees ensure.
 -- Assumes nothing.
 use Rattle.table.specs.declared.rules.event.Event.the-variants as event
 use Rattle.octets.proofs.Branch.{and-right}
@@ -11,8 +11,8 @@ use borrow.Author.Needs.{needs}
 use denote.Ref.{now}
 use lib.ListN.{length}
 use mathlib.Core.Path.{_∙_, _≡_, refl, sym}
-use Rattle.table.proofs.host.calls.peer_receive.Statement.{statement}
-use Rattle.table.proofs.host.calls.peer_receive.Tie as tie
+use Rattle.table.proofs.host.calls.receive.Statement.{statement}
+use Rattle.table.proofs.host.calls.receive.Tie as tie
 
 refusal-requires : tie.Need-refusal-requires
 refusal-requires c κs = tt
@@ -59,8 +59,8 @@ same-length-3 c = search needs
 returns-4 : tie.Need-returns-4
 returns-4 c = let w = sym (c .before .before .before .before .before .before .before .before .before .before .before .before .before .survey .ensures .0) ∙ c .before .before .before .before .before .before .before .before .before .before .before .before .if3 .taken in let i = rows-table (c .before .before .before .before .before .before .before .before .before .before .before .before .before .before .before .before .before .before .before .before .args .s) (now (c .before .before .before .before .before .before .before .before .before .before .before .before .before .before .before .before .before .before .before .before .args .table)) (c .before .before .before .before .before .before .before .before .before .before .before .before .before .before .before .if2 .left) w in let f = and-right (numberedAt 32 0 (now (c .before .before .before .before .before .before .before .before .before .before .before .before .before .before .before .before .before .before .before .before .args .table))) (wellFormed (c .before .before .before .before .before .before .before .before .before .before .before .before .before .before .before .before .before .before .before .before .args .s) (recordsOf (now (c .before .before .before .before .before .before .before .before .before .before .before .before .before .before .before .before .before .before .before .before .args .table)))) w in let m : metOf (recordsOf (now (c .before .before .before .before .before .before .before .before .before .before .before .before .before .before .before .before .before .before .before .before .args .table))) (c .before .before .before .before .before .before .before .before .before .heard-at .result) ≡ receivedOf (c .before .before .before .before .before .before .before .before .before .before .before .before .before .before .before .before .before .before .before .before .args .s) (recordsOf (now (c .before .before .before .before .before .before .before .before .before .before .before .before .before .before .before .before .before .before .before .before .args .table))) (now (c .before .before .before .before .before .before .before .before .before .before .before .before .before .before .before .before .before .before .before .before .args .frame)) (length (now (c .before .before .before .before .before .before .before .before .before .before .before .before .before .before .before .before .before .before .before .before .args .out))) = c .before .before .before .before .before .before .before .before .before .heard-at .ensures ∙ rw (c .before .before .before .before .before .before .before .before .before .before .read .ensures) (frame-heard (c .before .before .before .before .before .before .before .before .before .before .before .before .before .before .before .before .before .before .before .before .args .s) (recordsOf (now (c .before .before .before .before .before .before .before .before .before .before .before .before .before .before .before .before .before .before .before .before .args .table))) (now (c .before .before .before .before .before .before .before .before .before .before .before .before .before .before .before .before .before .before .before .before .args .frame)) (length (now (c .before .before .before .before .before .before .before .before .before .before .before .before .before .before .before .before .before .before .before .before .args .out))) (c .before .before .before .before .before .before .before .before .before .before .before .before .before .before .before .before .if1 .left) f) in let a = acts (now (c .before .before .before .before .before .before .before .before .before .before .before .before .before .before .before .before .before .before .before .before .args .table)) (c .before .before .before .before .before .before .before .before .before .before .before .before .before .before .before .before .before .before .before .before .args .s) event.Frame (now (c .before .before .before .before .before .before .before .before .before .before .before .before .before .before .before .before .before .before .before .before .args .frame)) (now (c .before .before .before .before .before .before .before .before .before .before .before .before .before .before .before .before .before .before .before .before .args .out)) i (c .before .before .before .before .before .before .before .before .before .heard-at .result) _ m refl refl in (c .before .before .answered .ensures .0 ∙ a .0, c .before .before .before .before .before .before .before .met .ensures i ∙ a .1, c .before .before .answered .ensures .1 ∙ a .2)
 
-pub peer-receive-spec : {M : Type 1} → statement M
-peer-receive-spec =
+pub receive-spec : {M : Type 1} → statement M
+receive-spec =
     tie.close
     (tie.spec
     refusal-requires

@@ -1,4 +1,4 @@
--- `table::host::calls::peer_pass` meets its contract: each answer by the tests that led to it and what its callees ensure.
+-- `table::host::calls::pass` meets its contract: each answer by the tests that led to it and what its callees ensure.
 -- Assumes nothing.
 use Rattle.table.specs.declared.rules.event.Event.the-variants as event
 use Rattle.octets.proofs.Branch.{and-right}
@@ -9,8 +9,8 @@ use borrow.Author.Needs.{needs}
 use denote.Ref.{now}
 use mathlib.Core.List.{[]}
 use mathlib.Core.Path.{_∙_, sym}
-use Rattle.table.proofs.host.calls.peer_pass.Statement.{statement}
-use Rattle.table.proofs.host.calls.peer_pass.Tie as tie
+use Rattle.table.proofs.host.calls.pass.Statement.{statement}
+use Rattle.table.proofs.host.calls.pass.Tie as tie
 
 refusal-requires : tie.Need-refusal-requires
 refusal-requires c κs = tt
@@ -63,8 +63,8 @@ same-length-4 c = search needs
 returns-5 : tie.Need-returns-5
 returns-5 c = let w = sym (c .before .before .before .before .before .before .before .before .before .before .before .survey .ensures .0) ∙ c .before .before .before .before .before .before .before .before .before .before .if3 .taken in let i = rows-table (c .before .before .before .before .before .before .before .before .before .before .before .before .before .before .before .before .before .args .s) (now (c .before .before .before .before .before .before .before .before .before .before .before .before .before .before .before .before .before .args .table)) (c .before .before .before .before .before .before .before .before .before .before .before .before .before .if2 .left) w in let f = and-right (numberedAt 32 0 (now (c .before .before .before .before .before .before .before .before .before .before .before .before .before .before .before .before .before .args .table))) (wellFormed (c .before .before .before .before .before .before .before .before .before .before .before .before .before .before .before .before .before .args .s) (recordsOf (now (c .before .before .before .before .before .before .before .before .before .before .before .before .before .before .before .before .before .args .table)))) w in let a = passes (now (c .before .before .before .before .before .before .before .before .before .before .before .before .before .before .before .before .before .args .table)) (c .before .before .before .before .before .before .before .before .before .before .before .before .before .before .before .before .before .args .s) (c .before .before .before .before .before .before .before .before .before .before .before .before .before .before .before .before .before .args .step) (now (c .before .before .before .before .before .before .before .before .before .before .before .before .before .before .before .before .before .args .out)) i f (c .before .before .before .before .before .before .before .before .before .before .before .before .before .before .if1 .left) (c .before .before .before .before .before .before .before .before .before .if4 .left) in (c .count .ensures ∙ rw (c .before .refusal5 .ensures, c .before .before .before .before .before .before .clock .ensures .0) (a .0), c .before .before .before .before .before .before .clock .ensures .1 ∙ a .1, c .before .before .before .before .before .before .clock .ensures .2 ∙ a .2)
 
-pub peer-pass-spec : {M : Type 1} → statement M
-peer-pass-spec =
+pub pass-spec : {M : Type 1} → statement M
+pass-spec =
     tie.close
     (tie.spec
     refusal-requires

@@ -1,0 +1,163 @@
+/* peer_table_octets.h - the peer table's numbers and its three calls, as every processor has them: over numbers and octets alone.
+ *
+ * Include peer_table.h, which says what a host must know and puts structs and small functions round these calls. A host that is not
+ * little-endian, or that brings its own forms, includes this file by itself.
+ *
+ * Every number of several octets is little-endian. A slice lies at any alignment, its length is 64 bits on every processor.
+ *   table      512 octets, read and written: 32 records of address 8, hold 4, left 2, state 1, exchange 1. All zero: the empty table
+ *   settings   12 octets: role 1, own address 6 (as in a frame), rsna 1, authentication timeout 2, association timeout 2
+ *   frame      any octets, without FCS
+ *   out        what the call writes, from its first octet on
+ *   answer     24 octets or more, of which 24 are written: current AP 8, code 2, written 2, refusal 1, verdict 1, notice 1,
+ *              distribution system 1, state 1, zero 7
+ * The result is the refusal's number. A refusal writes its number and zeros into the answer, and leaves table and out. Where the answer
+ * is too short, which is refusal 1, nothing at all is written. */
+#ifndef PEER_TABLE_OCTETS_H
+#define PEER_TABLE_OCTETS_H
+
+#include <stdint.h>
+
+/* Rises when a call, a layout or a number changes. */
+#define PEER_TABLE_VERSION 2
+
+/* Sizes in octets, counts, and the one time that the rules fix. A time is in TU of 1,024 microseconds. */
+enum {
+    PEER_PLACES = 32,
+    PEER_RECORD_OCTETS = 16,
+    PEER_TABLE_OCTETS = 512,
+    PEER_SETTINGS_OCTETS = 12,
+    PEER_ANSWER_OCTETS = 24,
+    PEER_ADDRESS_OCTETS = 6,
+    PEER_FRAME_LONGEST = 4096,
+    PEER_OUT_LEAST = 34,       /* a frame was received, our side asks: the longest frame written */
+    PEER_PASS_OUT_LEAST = 256, /* time passed: 32 timeouts */
+    PEER_TIMEOUT_OCTETS = 8,   /* one timeout: place, kind, address of six octets */
+    PEER_STACK_OCTETS = 1280,  /* below the caller's frame, on every target; tested, not proved: README.md has the most seen */
+    PEER_HOLD_USUAL = 1954     /* 2 s: the hold after a rejection without a comeback time, and after a disassociation received */
+};
+
+/* The role in the settings */
+enum { PEER_AP = 1, PEER_STATION = 2 };
+
+/* Refusals: the first that applies.
+     a primitive   1, 2, 3, 5, 9, 7, 8, 6
+     a frame       1, 2, 3 for its length, 4, 3 for Address 2, 3 for elements; one without a class is discarded before 4 is looked at
+     a clock step  1, 2, 3 */
+enum {
+    PEER_DONE = 0,
+    PEER_REFUSED_BUFFER = 1,   /* out or answer is too short */
+    PEER_REFUSED_TABLE = 2,    /* settings or table not well formed, or not of their length */
+    PEER_REFUSED_INPUT = 3,    /* unknown primitive; code, clock step or peer address not allowed; frame too short or too long, its
+                                  Address 2 invalid or own, or a (re)association response whose elements do not end with it */
+    PEER_REFUSED_FOREIGN = 4,  /* the frame is neither for us nor for a group */
+    PEER_REFUSED_ROLE = 5,     /* the primitive is for the other role */
+    PEER_REFUSED_FULL = 6,     /* no place is free for a new record */
+    PEER_REFUSED_NO_MATCH = 7, /* the primitive finds no matching exchange or state */
+    PEER_REFUSED_HELD = 8,     /* this AP told the station to wait, and the time is not over */
+    PEER_REFUSED_BUSY = 9      /* an exchange is under way */
+};
+
+/* The verdict on a frame */
+enum { PEER_NO_VERDICT = 0, PEER_ADMIT = 1, PEER_DISCARD = 2 };
+
+/* The notice, to be passed on to our own side. An indication says what a peer did, a confirm how our request ended. */
+enum {
+    PEER_NO_NOTICE = 0,
+    PEER_AUTHENTICATION_INDICATION = 1,
+    PEER_AUTHENTICATION_CONFIRM = 2,
+    PEER_DEAUTHENTICATION_INDICATION = 3,
+    PEER_DEAUTHENTICATION_CONFIRM = 4,
+    PEER_ASSOCIATION_INDICATION = 5,
+    PEER_ASSOCIATION_CONFIRM = 6,
+    PEER_REASSOCIATION_INDICATION = 7,
+    PEER_REASSOCIATION_CONFIRM = 8,
+    PEER_DISASSOCIATION_INDICATION = 9,
+    PEER_DISASSOCIATION_CONFIRM = 10
+};
+
+/* What an AP tells the distribution system */
+enum { PEER_DS_NOTHING = 0, PEER_DS_JOINED = 1, PEER_DS_LEFT = 2 };
+
+/* The state of a peer; 0 is a free place, or no record, or no peer. */
+enum {
+    PEER_NO_STATE = 0,
+    PEER_STATE_1 = 1, /* not authenticated */
+    PEER_STATE_2 = 2, /* authenticated, not associated */
+    PEER_STATE_3 = 3, /* authenticated and associated, RSNA still to be established */
+    PEER_STATE_4 = 4  /* authenticated and associated, RSNA established or not required */
+};
+
+/* The exchange of a record: asked of us and awaiting an acknowledgement are an AP's, sent is a station's. 4 is never well formed. */
+enum {
+    PEER_NO_EXCHANGE = 0,
+    PEER_ASKED_AUTHENTICATION = 1,
+    PEER_ASKED_ASSOCIATION = 2,
+    PEER_ASKED_REASSOCIATION = 3,
+    PEER_AWAITING_AUTHENTICATION = 4,
+    PEER_AWAITING_ASSOCIATION = 5,
+    PEER_AWAITING_REASSOCIATION = 6,
+    PEER_SENT_AUTHENTICATION = 7,
+    PEER_SENT_ASSOCIATION = 8,
+    PEER_SENT_REASSOCIATION = 9
+};
+
+/* The kind of a timeout */
+enum { PEER_KIND_AUTHENTICATION = 1, PEER_KIND_ASSOCIATION = 2, PEER_KIND_REASSOCIATION = 3 };
+
+/* Primitives of our own side: for whom, and which code goes with it */
+enum {
+    PEER_AUTHENTICATE_REQUEST = 1,  /* station, 0 */
+    PEER_AUTHENTICATE_RESPONSE = 2, /* AP, status */
+    PEER_DEAUTHENTICATE = 3,        /* both, reason other than 0 */
+    PEER_ASSOCIATE_REQUEST = 4,     /* station, 0 */
+    PEER_REASSOCIATE_REQUEST = 5,   /* station, 0 */
+    PEER_DISASSOCIATE = 6,          /* both, reason other than 0 */
+    PEER_ASSOCIATE_RESPONSE = 7,    /* AP, status */
+    PEER_REASSOCIATE_RESPONSE = 8,  /* AP, status */
+    PEER_SET_PROTECTION = 9,        /* both, 0: the keys are in place, State 3 becomes 4 */
+    PEER_TRANSMIT_REPORT = 10       /* AP: was our (re)association response acknowledged? */
+};
+
+/* The code of PEER_TRANSMIT_REPORT */
+enum { PEER_NOT_ACKNOWLEDGED = 0, PEER_ACKNOWLEDGED = 1 };
+
+/* Status and reason codes that the library writes, and three that hosts commonly give. Any other number of the standard may be given. */
+enum {
+    PEER_STATUS_SUCCESS = 0,
+    PEER_STATUS_UNSPECIFIED = 1,       /* to a (re)association request in State 1; confirm of a join that can't be asked */
+    PEER_STATUS_ALGORITHM = 13,        /* to an authentication that is not open */
+    PEER_STATUS_FULL = 17,             /* to an authentication when no place is free */
+    PEER_STATUS_TRY_LATER = 30,        /* rejected for now; the comeback time is in an element of the response */
+    PEER_REASON_LEAVING = 3,           /* deauthenticated because leaving */
+    PEER_REASON_NOT_AUTHENTICATED = 6, /* class 2 frame in State 1 */
+    PEER_REASON_NOT_ASSOCIATED = 7,    /* class 3 frame in State 1 or 2 */
+    PEER_REASON_LEFT_BSS = 8           /* disassociated because leaving */
+};
+
+/* The element of a rejection that says after how many TU the station may come back: id 56, length 5, type 3, a number of 4 octets.
+   A comeback of 0 is a hold of 0: the station may ask again at once. Without the element the hold is PEER_HOLD_USUAL. */
+enum { PEER_COMEBACK_ELEMENT = 56, PEER_COMEBACK_LENGTH = 5, PEER_COMEBACK_TYPE = 3, PEER_COMEBACK_OCTETS = 7 };
+
+#ifdef __cplusplus
+extern "C" {
+#endif
+
+/* A frame was received. */
+uint64_t peer_receive_octets(uint8_t *table, uint64_t table_octets, const uint8_t *settings, uint64_t settings_octets,
+                             const uint8_t *frame, uint64_t frame_octets, uint8_t *out, uint64_t out_octets,
+                             uint8_t *answer, uint64_t answer_octets);
+
+/* Our own side asks for something. The address is a number, the first octet lowest. */
+uint64_t peer_ask_octets(uint8_t *table, uint64_t table_octets, const uint8_t *settings, uint64_t settings_octets,
+                         uint8_t primitive, uint64_t address, uint16_t code, uint8_t *out, uint64_t out_octets,
+                         uint8_t *answer, uint64_t answer_octets);
+
+/* Time passed. */
+uint64_t peer_pass_octets(uint8_t *table, uint64_t table_octets, const uint8_t *settings, uint64_t settings_octets,
+                          uint16_t step, uint8_t *out, uint64_t out_octets, uint8_t *answer, uint64_t answer_octets);
+
+#ifdef __cplusplus
+}
+#endif
+
+#endif

@@ -1,0 +1,126 @@
+/* helpers.c - the small functions and the names of the header, tried one by one; C99 and C++11. Links a library; the calls as a host
+   writes them are made once each. Ends with 1 and a line for each fault. */
+#include "peer_table.h"
+#include "peer_table_names.h"
+
+#include <stdio.h>
+#include <string.h>
+
+#if PEER_TABLE_VERSION != 2
+#error "this test is of version 2"
+#endif
+
+static int faults;
+
+static void want(int holds, const char *what)
+{
+    if (!holds) {
+        printf("header: wrong: %s\n", what);
+        faults++;
+    }
+}
+
+static void addresses(void)
+{
+    static const uint8_t octets[PEER_ADDRESS_OCTETS] = { 2, 0x11, 0x22, 0x33, 0x44, 0xff };
+    uint8_t back[PEER_ADDRESS_OCTETS + 2];
+
+    memset(back, 7, sizeof back);
+    want(peer_address_read(octets) == 0xff4433221102u, "six octets as a number");
+    peer_address_write(0xff4433221102u, back + 1);
+    want(memcmp(back + 1, octets, sizeof octets) == 0, "a number as six octets");
+    want(back[0] == 7 && back[PEER_ADDRESS_OCTETS + 1] == 7, "an address is six octets and no more");
+}
+
+static void records(void)
+{
+    peer_table table;
+
+    memset(&table, 0, sizeof table);
+    table.at[0].address = 4;
+    table.at[0].state = PEER_STATE_2;
+    table.at[31].address = 8;
+    table.at[31].state = PEER_STATE_4;
+    want(peer_record_at(&table, 0) == &table.at[0] && peer_record_at(&table, 31) == &table.at[31], "a record by its place");
+    want(!peer_record_at(&table, 1) && !peer_record_at(&table, 32) && !peer_record_at(&table, 4000000000u), "no record by a place");
+    want(peer_record_of(&table, 4) == &table.at[0] && peer_record_of(&table, 8) == &table.at[31], "a record by its address");
+    want(!peer_record_of(&table, 6) && !peer_record_of(&table, 0), "no record by an address");
+    want(peer_aid(0) == 1 && peer_aid(31) == 32, "the AID of a place");
+}
+
+static void comebacks(void)
+{
+    static const uint8_t element[PEER_COMEBACK_OCTETS] = { 56, 5, 3, 4, 3, 2, 1 };
+    uint8_t frame[40];
+
+    memset(frame, 9, sizeof frame);
+    want(peer_comeback_append(frame, 30, 36, 5) == 0 && peer_comeback_append(frame, 30, 6, 5) == 0 &&
+         peer_comeback_append(frame, 30, 0, 5) == 0 && frame[30] == 9, "a comeback without room");
+    want(peer_comeback_append(frame, 30, 37, 0x01020304) == 37, "a comeback with just the room");
+    want(memcmp(frame + 30, element, sizeof element) == 0 && frame[29] == 9 && frame[37] == 9, "a comeback's octets");
+}
+
+static void timeouts(void)
+{
+    static const uint8_t out[16] = { 0, 1, 2, 0, 0, 0, 0, 1, 31, 3, 2, 0, 0, 0, 0, 2 };
+    peer_timeout t = peer_timeout_at(out, 16, 1);
+
+    want(t.place == 31 && t.kind == PEER_KIND_REASSOCIATION && t.address == 0x020000000002u, "the second timeout");
+    want(peer_timeout_at(out, 16, 0).kind == PEER_KIND_AUTHENTICATION, "the first timeout");
+    want(peer_timeout_at(out, 8, 1).kind == 0 && peer_timeout_at(out, 0, 0).kind == 0, "no timeout");
+}
+
+/* Every number that a list has a name for has one of its own, the next has none. */
+static void named(const char *(*name)(unsigned), unsigned count, const char *what)
+{
+    for (unsigned i = 0; i < count; i++)
+        for (unsigned j = 0; j <= i; j++)
+            want((strcmp(name(i), name(j)) == 0) == (i == j) && strcmp(name(i), "unknown") != 0, what);
+    want(strcmp(name(count), "unknown") == 0 && strcmp(name(255), "unknown") == 0 && strcmp(name(4294967295u), "unknown") == 0, what);
+}
+
+static void names(void)
+{
+    named(peer_refusal_name, 10, "the names of refusals");
+    named(peer_verdict_name, 3, "the names of verdicts");
+    named(peer_notice_name, 11, "the names of notices");
+    named(peer_ds_name, 3, "the words to the distribution system");
+    named(peer_state_name, 5, "the names of states");
+    named(peer_exchange_name, 10, "the names of exchanges");
+    named(peer_kind_name, 4, "the names of kinds");
+    named(peer_primitive_name, 11, "the names of primitives");
+    want(strcmp(peer_code_name(PEER_AUTHENTICATION_CONFIRM), "status") == 0 && strcmp(peer_code_name(11), "unknown") == 0, "a code's name");
+}
+
+/* A station asks, its request is heard by an AP, and its time runs out. */
+static void calls(void)
+{
+    static const peer_settings ap = { PEER_AP, { 2, 0, 0, 0, 0, 0x0a }, 0, 100, 100 };
+    static const peer_settings station = { PEER_STATION, { 2, 0, 0, 0, 1, 1 }, 0, 100, 100 };
+    peer_table at_ap, at_station;
+    uint8_t out[PEER_PASS_OUT_LEAST], answer[PEER_OUT_LEAST];
+    peer_answer a;
+
+    memset(&at_ap, 0, sizeof at_ap);
+    memset(&at_station, 0, sizeof at_station);
+    a = peer_ask(&at_station, &station, PEER_AUTHENTICATE_REQUEST, peer_address_read(ap.own), 0, out, sizeof out);
+    want(a.refusal == PEER_DONE && a.written == 30 && peer_sender(out) == peer_address_read(station.own), "peer_ask");
+    a = peer_receive(&at_ap, &ap, out, a.written, answer, sizeof answer);
+    want(a.verdict == PEER_ADMIT && a.notice == PEER_AUTHENTICATION_INDICATION && a.state == PEER_STATE_1, "peer_receive");
+    want(at_ap.at[0].exchange == PEER_ASKED_AUTHENTICATION && peer_record_of(&at_ap, peer_sender(out)) == &at_ap.at[0], "its record");
+    a = peer_pass(&at_station, &station, 100, out, sizeof out);
+    want(a.written == PEER_TIMEOUT_OCTETS && peer_timeout_at(out, a.written, 0).address == peer_address_read(ap.own), "peer_pass");
+    a = peer_pass(&at_station, &station, 100, out, PEER_PASS_OUT_LEAST - 1);
+    want(a.refusal == PEER_REFUSED_BUFFER && a.written == 0, "a refusal");
+}
+
+int main(void)
+{
+    addresses();
+    records();
+    comebacks();
+    timeouts();
+    names();
+    calls();
+    return faults > 0;
+}

@@ -1,0 +1,74 @@
+/* record.c - a call as octets. A head of 32: kind, primitive, number (2), result, whether the table changes, lengths (2 each) of table,
+   settings, frame, out and answer, octets written (2), an octet by which the replay draws alignments, zero, address (8), zeros. Then settings,
+   frame, the table before, where it changes the table after, the octets written to out, and the answer where one is written. Which
+   calls are recorded is drawn by chances of its own, so that recording changes no call. */
+#include "record.h"
+
+#include <stdio.h>
+#include <string.h>
+
+enum { HEAD = 32 };
+
+static FILE *file;
+static struct chance chance;
+static unsigned one_of;
+static unsigned long recorded;
+
+bool record_start(const char *path, unsigned one_in)
+{
+    file = fopen(path, "wb");
+    one_of = one_in;
+    chance = chance_of(one_in);
+    return file != NULL;
+}
+
+static void put(const uint8_t *p, size_t count)
+{
+    if (count > 0)
+        fwrite(p, 1, count, file);
+}
+
+static void put_head(const struct call *c, const struct pt_answer *answer, bool changed)
+{
+    size_t frame = c->kind == CALL_RECEIVE ? c->frame_octets : 0;
+    const size_t lengths[] = { c->table_octets, c->settings_octets, frame, c->out_octets, c->answer_octets, answer->written };
+    uint8_t head[HEAD] = { (uint8_t)c->kind, c->primitive };
+
+    pt_put16(head + 2, c->number);
+    head[4] = answer->refusal;
+    head[5] = changed;
+    for (int i = 0; i < 6; i++)
+        pt_put16(head + 6 + 2 * i, (uint16_t)lengths[i]);
+    head[18] = (uint8_t)below(&chance, 256);
+    for (int i = 0; i < 8; i++)
+        head[20 + i] = (uint8_t)(c->address >> (8 * i));
+    put(head, HEAD);
+}
+
+void record(const struct call *c, const uint8_t *settings, const struct pt_answer *answer, const uint8_t *table, const uint8_t *out,
+            const uint8_t *octets)
+{
+    bool changed = memcmp(c->table, table, c->table_octets) != 0;
+
+    if (!file || below(&chance, one_of) > 0)
+        return;
+    put_head(c, answer, changed);
+    put(settings, c->settings_octets);
+    put(c->frame, c->kind == CALL_RECEIVE ? c->frame_octets : 0);
+    put(c->table, c->table_octets);
+    put(table, changed ? c->table_octets : 0);
+    put(out, answer->written);
+    put(octets, c->answer_octets < PEER_ANSWER_OCTETS ? 0 : PEER_ANSWER_OCTETS);
+    recorded++;
+}
+
+bool record_end(void)
+{
+    bool all;
+
+    if (!file)
+        return true;
+    all = !ferror(file) && fclose(file) == 0;
+    printf("%lu of the calls recorded\n", recorded);
+    return all;
+}
