@@ -5,7 +5,7 @@
  * on different tables may run at the same time.
  *
  *     static peer_table table;                                       // all zero: the empty table
- *     static const peer_settings ap = { PEER_AP, { 2, 0, 0, 0, 0, 0x0a }, 0, 100, 100 };
+ *     static const peer_settings ap = { PEER_AP, { 2, 0, 0, 0, 0, 0x0a }, 0, 100, 100, PEER_EDITION_1, 0 };
  *     uint8_t out[PEER_OUT_LEAST];
  *     peer_answer a = peer_receive(&table, &ap, frame, frame_octets, out, sizeof out);
  *     if (a.written > 0)
@@ -19,6 +19,8 @@
  * What each call is lent
  *   table    read and written. Any contents are allowed: what is not well formed is refusal 2. A copy of its octets may be stored and
  *            brought back, on any processor.
+ *   settings read only. What is out of range is refusal 2, an edition that was left 0 too. A host from before there were editions may go on
+ *            with 12 octets in the calls of peer_table_octets.h.
  *   frame    read only, without FCS, any contents, any length; over 4,096 octets is refusal 3.
  *   out      written from its first octet; only the first `written` octets change. At least 34 octets, 256 for peer_pass; more is fine.
  * No pointer may be null, also with length 0. Each points to as many octets as its length says; nothing beyond is read or written. They
@@ -63,6 +65,8 @@ typedef struct {
     uint8_t rsna;                     /* 1 where RSNA is required, else 0 */
     uint16_t authentication_timeout;  /* 1 to 65,535 TU: how long a station waits for the answer */
     uint16_t association_timeout;     /* the same, for reassociation too */
+    uint8_t edition;                  /* PEER_EDITION_1 or PEER_EDITION_2 */
+    uint8_t protection;               /* 1 where management frames are protected, else 0; edition 1 does not look at it */
 } peer_settings;
 
 /* What a call answers. */
@@ -101,7 +105,8 @@ typedef struct {
 /* A layout that does not hold is an array of size -1. */
 typedef char peer_settings_are_octets[sizeof(peer_settings) == PEER_SETTINGS_OCTETS && offsetof(peer_settings, own) == 1 &&
     offsetof(peer_settings, rsna) == 7 && offsetof(peer_settings, authentication_timeout) == 8 &&
-    offsetof(peer_settings, association_timeout) == 10 ? 1 : -1];
+    offsetof(peer_settings, association_timeout) == 10 && offsetof(peer_settings, edition) == 12 &&
+    offsetof(peer_settings, protection) == 13 ? 1 : -1];
 typedef char peer_answer_is_octets[sizeof(peer_answer) == PEER_ANSWER_OCTETS && offsetof(peer_answer, code) == 8 &&
     offsetof(peer_answer, written) == 10 && offsetof(peer_answer, refusal) == 12 && offsetof(peer_answer, verdict) == 13 &&
     offsetof(peer_answer, notice) == 14 && offsetof(peer_answer, ds) == 15 && offsetof(peer_answer, state) == 16 ? 1 : -1];

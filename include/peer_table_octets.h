@@ -5,7 +5,8 @@
  *
  * Every number of several octets is little-endian. A slice lies at any alignment, its length is 64 bits on every processor.
  *   table      512 octets, read and written: 32 records of address 8, hold 4, left 2, state 1, exchange 1. All zero: the empty table
- *   settings   12 octets: role 1, own address 6 (as in a frame), rsna 1, authentication timeout 2, association timeout 2
+ *   settings   14 octets: role 1, own address 6 (as in a frame), rsna 1, authentication timeout 2, association timeout 2, edition 1,
+ *              protection 1. Or the first 12 of these: edition 1 without protection
  *   frame      any octets, without FCS
  *   out        what the call writes, from its first octet on
  *   answer     24 octets or more, of which 24 are written: current AP 8, code 2, written 2, refusal 1, verdict 1, notice 1,
@@ -18,14 +19,15 @@
 #include <stdint.h>
 
 /* Rises when a call, a layout or a number changes. */
-#define PEER_TABLE_VERSION 2
+#define PEER_TABLE_VERSION 3
 
 /* Sizes in octets, counts, and the one time that the rules fix. A time is in TU of 1,024 microseconds. */
 enum {
     PEER_PLACES = 32,
     PEER_RECORD_OCTETS = 16,
     PEER_TABLE_OCTETS = 512,
-    PEER_SETTINGS_OCTETS = 12,
+    PEER_SETTINGS_OCTETS = 14,
+    PEER_SETTINGS_OCTETS_LEAST = 12, /* without edition and protection; no other length is taken */
     PEER_ANSWER_OCTETS = 24,
     PEER_ADDRESS_OCTETS = 6,
     PEER_FRAME_LONGEST = 4096,
@@ -38,6 +40,12 @@ enum {
 
 /* The role in the settings */
 enum { PEER_AP = 1, PEER_STATION = 2 };
+
+/* The edition in the settings: where a peer stands after an AP has rejected its (re)association. Nothing else depends on it. */
+enum {
+    PEER_EDITION_1 = 1, /* in State 2: a peer that was associated is so no longer */
+    PEER_EDITION_2 = 2  /* where it stood, also associated; only State 4 becomes 3 where management frames are not protected */
+};
 
 /* Refusals: the first that applies.
      a primitive   1, 2, 3, 5, 9, 7, 8, 6

@@ -69,9 +69,15 @@ def record(kind, body, length=None, mark=MARK):
     return mark + bytes((kind,)) + number(len(body) if length is None else length) + body
 
 
-def settings(role, own, rsna=0, authentication_timeout=100, association_timeout=100):
-    timeouts = number(authentication_timeout) + number(association_timeout)
-    return record(SETTINGS, bytes((role,)) + address(own) + bytes((rsna,)) + timeouts)
+def settings(role, own, rsna=0, authentication_timeout=100, association_timeout=100, edition=None,
+             protection=None):
+    """A record of 12 octets, or of 14 where an edition or a protection flag is given: the other is
+    then what the shorter record means."""
+    body_ = bytes((role,)) + address(own) + bytes((rsna,))
+    body_ += number(authentication_timeout) + number(association_timeout)
+    if edition is not None or protection is not None:
+        body_ += bytes((1 if edition is None else edition, protection or 0))
+    return record(SETTINGS, body_)
 
 
 def primitive(which, peer, code=0):

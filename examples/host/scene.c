@@ -8,7 +8,8 @@
 enum { TIMEOUT = 100 };
 
 #define SIDE(its_name, its_role, ...) { .name = its_name, .settings = { .role = its_role, .own = { __VA_ARGS__ }, \
-                                        .authentication_timeout = TIMEOUT, .association_timeout = TIMEOUT } }
+                                        .authentication_timeout = TIMEOUT, .association_timeout = TIMEOUT, \
+                                        .edition = PEER_EDITION_1 } }
 
 static struct side ap = SIDE("AP", PEER_AP, 2, 0, 0, 0, 0, 0x0a);
 static struct side first = SIDE("scanner 1", PEER_STATION, 2, 0, 0, 0, 1, 1), second = SIDE("scanner 2", PEER_STATION, 2, 0, 0, 0, 2, 1),

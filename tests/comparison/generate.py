@@ -26,6 +26,8 @@ ROUND = ("ap", "station", "ap", "station", "ap", "station", "ap-full", "ap", "st
          "station-full", "ap", "station")
 TIMEOUTS = (1, 2, 3, 10, 50, 100, 100, 500, 1000, 1954, 30000, 65534, 65535)
 CROWD = 33
+# Edition and protection; without them the settings record has 12 octets.
+RULES = ((), (1, 0), (1, 1), (2, 0), (2, 0), (2, 1), (2, 1))
 
 Job = collections.namedtuple("Job", "name kind seed index events")
 
@@ -70,7 +72,7 @@ def walked(job, dice):
     timeouts = dice.of(TIMEOUTS), dice.of(TIMEOUTS)
     if full and role == bench.STATION:
         timeouts = dice.of((20, 1000, 65535)), timeouts[1]
-    walk = Walk(dice, role, peers, dice.below(2), timeouts)
+    walk = Walk(dice, role, peers, dice.below(2), timeouts, dice.of(RULES))
     if full:
         moves.fill(walk)
     while walk.events() < job.events:

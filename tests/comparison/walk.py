@@ -69,11 +69,13 @@ class Peer:
 class Walk:
     """Settings, peers and the records so far."""
 
-    def __init__(self, dice, role, peer_count, rsna, timeouts):
+    def __init__(self, dice, role, peer_count, rsna, timeouts, rule=()):
+        """The rule is edition and protection; none of them makes a settings record of 12 octets."""
         self.dice, self.role, self.rsna, self.timeouts = dice, role, rsna, timeouts
+        self.edition, self.protection = rule or (1, 0)
         self.own = OWN
         self.peers = [Peer(bench.address(f"02:00:00:00:01:{n:02x}")) for n in range(peer_count)]
-        self.records = [bench.settings(role, OWN, rsna, *timeouts)]
+        self.records = [bench.settings(role, OWN, rsna, *timeouts, *rule)]
 
     def events(self):
         return len(self.records) - 1
@@ -122,7 +124,15 @@ class Walk:
     def joining(self):
         return next((peer for peer in self.peers if peer.busy_with(SENT)), None)
 
-    # Falls that both roles share
+    # Falls
+
+    def rejected(self, peer):
+        """By an AP's own answer: the first edition lowers to State 2, the second only State 4, to 3,
+        and where management frames are protected nothing."""
+        if self.edition == 1:
+            peer.state = 2
+        elif peer.state == 4 and not self.protection:
+            peer.state = 3
 
     def deauthenticated(self, peer):
         if peer.state > 1:

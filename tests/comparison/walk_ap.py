@@ -61,7 +61,7 @@ def answer_request(walk, peer):
         peer.exchange = (AWAITING, kind)
     else:
         peer.end_exchange()
-        peer.state = 2
+        walk.rejected(peer)
 
 
 def report(walk, peer):

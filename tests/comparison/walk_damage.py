@@ -14,7 +14,10 @@ OUT_OF_RANGE = (
     dict(authentication_timeout=0), dict(association_timeout=0),
     dict(role=bench.STATION, authentication_timeout=0, association_timeout=0),
     dict(own=bench.ZERO), dict(own=bench.BROADCAST), dict(own="03:00:00:00:00:0a"),
-    dict(own="01:00:00:00:00:00"), dict(role=bench.STATION, own=bench.ZERO))
+    dict(own="01:00:00:00:00:00"), dict(role=bench.STATION, own=bench.ZERO),
+    dict(edition=0), dict(edition=3), dict(edition=255), dict(role=bench.STATION, edition=0),
+    dict(protection=2), dict(edition=2, protection=255),
+    dict(role=bench.STATION, edition=2, protection=2))
 
 
 def base():
@@ -60,10 +63,13 @@ def bad_starts():
     good = bench.settings(**GOOD)
     body = good[5:]
     rest = b"".join(base()[1:])
-    starts = [bench.record(bench.SETTINGS, body[:11]), bench.record(bench.SETTINGS, body + b"\0"),
-              bench.record(bench.SETTINGS, b""), bench.record(bench.SETTINGS, body, mark=b"\0\0"),
-              bench.record(bench.SETTINGS, body + b"\1\0"), b"", b"\n"]
-    return [start + rest for start in starts] + [good, good + good, good + b"\0", b"\x0b", b"\x0c"]
+    lengths = [bench.record(bench.SETTINGS, (body + b"\1\0\0\0\0")[:length])
+               for length in (0, 1, 11, 13, 14, 15, 16, 17)]
+    lying = [bench.record(bench.SETTINGS, body, length=14),
+             bench.record(bench.SETTINGS, body + b"\1\0", length=12)]
+    starts = lengths + lying + [bench.record(bench.SETTINGS, body, mark=b"\0\0"), b"", b"\n"]
+    cut = bench.settings(**GOOD, edition=2)[:-1]
+    return [start + rest for start in starts] + [good, cut, good + good, good + b"\0", b"\x0b", b"\x0c"]
 
 
 def damaged_inputs():

@@ -1,15 +1,20 @@
 """Sweeps: one peer is brought into a given state again and again, and every type and subtype to
-every sort of Address 1 at its boundary lengths, then Action frames, every primitive and code, is
-tried there."""
+every sort of Address 1 at its boundary lengths, then Action frames, every primitive and code, and at
+an access point every answer to a request, is tried there."""
 
 from tools import bench_input as bench
 
 from .walk import FOREIGN, GROUPS, LONGEST_STEP, Walk
 from .walk_odd import FILLS, LEAST_MANAGEMENT, least_length
 
-# Each sweep's role, RSNA and state; State 3 is reached where RSNA is required.
-SWEEPS = tuple((role, rsna, state) for role in (bench.ACCESS_POINT, bench.STATION)
+# Each sweep's role, RSNA, state and rule (edition and protection). State 3 is reached where RSNA is
+# required, or by a rejection at an access point of the second edition.
+SWEEPS = tuple((role, rsna, state, rule)
+               for role, rule in ((bench.ACCESS_POINT, ()), (bench.STATION, (2, 1)))
                for rsna, state in ((0, 0), (0, 1), (1, 2), (1, 3), (0, 4)))
+SWEEPS += tuple((bench.ACCESS_POINT, rsna, state, rule)
+                for rsna, state, rule in ((0, 4, (1, 1)), (0, 3, (2, 0)), (0, 4, (2, 0)),
+                                          (1, 3, (2, 1)), (0, 4, (2, 1))))
 RESPONSES = (bench.ASSOCIATION_RESPONSE, bench.REASSOCIATION_RESPONSE)
 PRIMITIVES = tuple(range(12))
 CODES = (0, 1, 2, 65535)
@@ -30,6 +35,9 @@ def reach_at_ap(walk, peer, state):
         walk.hear(bench.association_request(walk.own, peer.address))
         walk.ask(7, peer.address)
         walk.ask(10, peer.address, 1)
+    if state == 3 and not walk.rsna:
+        walk.hear(bench.association_request(walk.own, peer.address))
+        walk.ask(7, peer.address, 1)
 
 
 def reach_at_station(walk, peer, state):
@@ -76,10 +84,22 @@ def sweep_primitives(walk, peer, reach):
             reach()
 
 
+def sweep_answers(walk, peer, reach):
+    """Each request, each code in answer to it, and a report, which only a success awaits."""
+    requests = ((7, bench.association_request(walk.own, peer.address)),
+                (8, bench.reassociation_request(walk.own, peer.address, FOREIGN[0])))
+    for which, request in requests:
+        for code in CODES:
+            reach()
+            walk.hear(request)
+            walk.ask(which, peer.address, code)
+            walk.ask(10, peer.address, 1)
+
+
 def swept(dice, index):
     """The octets of one sweep."""
-    role, rsna, state = SWEEPS[index]
-    walk = Walk(dice, role, 1, rsna, (1000, 1000))
+    role, rsna, state, rule = SWEEPS[index]
+    walk = Walk(dice, role, 1, rsna, (1000, 1000), rule)
     peer = walk.peers[0]
     path = reach_at_ap if role == bench.ACCESS_POINT else reach_at_station
 
@@ -91,4 +111,6 @@ def swept(dice, index):
     sweep_frames(walk, peer, reach)
     sweep_actions(walk, peer)
     sweep_primitives(walk, peer, reach)
+    if role == bench.ACCESS_POINT:
+        sweep_answers(walk, peer, reach)
     return walk.octets()

@@ -6,8 +6,8 @@
 #include <stdio.h>
 #include <string.h>
 
-#if PEER_TABLE_VERSION != 2
-#error "this test is of version 2"
+#if PEER_TABLE_VERSION != 3
+#error "this test is of version 3"
 #endif
 
 static int faults;
@@ -95,8 +95,8 @@ static void names(void)
 /* A station asks, its request is heard by an AP, and its time runs out. */
 static void calls(void)
 {
-    static const peer_settings ap = { PEER_AP, { 2, 0, 0, 0, 0, 0x0a }, 0, 100, 100 };
-    static const peer_settings station = { PEER_STATION, { 2, 0, 0, 0, 1, 1 }, 0, 100, 100 };
+    static const peer_settings ap = { PEER_AP, { 2, 0, 0, 0, 0, 0x0a }, 0, 100, 100, PEER_EDITION_1, 0 };
+    static const peer_settings station = { PEER_STATION, { 2, 0, 0, 0, 1, 1 }, 0, 100, 100, PEER_EDITION_2, 1 };
     peer_table at_ap, at_station;
     uint8_t out[PEER_PASS_OUT_LEAST], answer[PEER_OUT_LEAST];
     peer_answer a;
@@ -114,6 +114,20 @@ static void calls(void)
     want(a.refusal == PEER_REFUSED_BUFFER && a.written == 0, "a refusal");
 }
 
+/* Settings from before there were editions: refused as a struct, taken as the octets that they were. */
+static void older_settings(void)
+{
+    peer_settings older = { PEER_STATION, { 2, 0, 0, 0, 1, 1 }, 0, 100, 100, 0, 0 };
+    peer_table table;
+    uint8_t out[PEER_PASS_OUT_LEAST];
+    peer_answer a;
+
+    memset(&table, 0, sizeof table);
+    want(peer_pass(&table, &older, 1, out, sizeof out).refusal == PEER_REFUSED_TABLE, "no edition");
+    want(peer_pass_octets((uint8_t *)&table, sizeof table, (const uint8_t *)&older, PEER_SETTINGS_OCTETS_LEAST, 1, out, sizeof out,
+                          (uint8_t *)&a, sizeof a) == PEER_DONE, "settings of 12 octets");
+}
+
 int main(void)
 {
     addresses();
@@ -122,5 +136,6 @@ int main(void)
     timeouts();
     names();
     calls();
+    older_settings();
     return faults > 0;
 }

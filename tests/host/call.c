@@ -25,7 +25,7 @@ const struct call *volatile call_under_way;
 
 static struct pt_answer independent(const struct call *c, struct pt_record *table, uint8_t *out)
 {
-    struct pt_settings s = settings_of(&c->settings);
+    struct pt_settings s = settings_of(&c->settings, c->settings_octets);
 
     if (c->kind == CALL_RECEIVE)
         return pt_receive(&s, table, c->frame, c->frame_octets, out, c->out_octets);
@@ -42,7 +42,7 @@ static struct pt_answer expected(const struct call *c, struct outcome *o)
 
     if (c->answer_octets < PEER_ANSWER_OCTETS || c->out_octets < (c->kind == CALL_PASS ? PEER_PASS_OUT_LEAST : PEER_OUT_LEAST))
         return pt_refuse(PT_BUFFER);
-    if (c->settings_octets != PEER_SETTINGS_OCTETS || c->table_octets != PEER_TABLE_OCTETS || !table_of(c->table, table))
+    if (!settings_length(c->settings_octets) || c->table_octets != PEER_TABLE_OCTETS || !table_of(c->table, table))
         return pt_refuse(PT_ILL_FORMED);
     a = independent(c, table, o->out);
     if (a.refusal == PT_DONE)

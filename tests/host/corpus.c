@@ -11,7 +11,7 @@ enum { HEADER = 5, SETTINGS = 0, PRIMITIVE = 1, FRAME = 2, CLOCK = 3, SCRATCH = 
 /* The bodies' lengths that the bench takes; a frame has any up to 4,096. */
 static bool length_fits(unsigned kind, size_t length)
 {
-    return (kind == SETTINGS && length == PEER_SETTINGS_OCTETS) || (kind == PRIMITIVE && length == 9) ||
+    return (kind == SETTINGS && settings_length(length)) || (kind == PRIMITIVE && length == 9) ||
            (kind == FRAME && length <= PT_FRAME_MAX) || (kind == CLOCK && length == 2);
 }
 
@@ -30,13 +30,11 @@ static void take_event(struct call *call, unsigned kind, const uint8_t *body, si
     }
 }
 
-static void take_settings(struct call *call, const uint8_t *body)
+/* The body is what a call is lent, octet by octet. */
+static void take_settings(struct call *call, const uint8_t *body, size_t length)
 {
-    call->settings.role = body[0];
-    memcpy(call->settings.own, body + 1, PEER_ADDRESS_OCTETS);
-    call->settings.rsna = body[7];
-    call->settings.authentication_timeout = pt_get16(body + 8);
-    call->settings.association_timeout = pt_get16(body + 10);
+    memcpy(&call->settings, body, length);
+    call->settings_octets = length;
 }
 
 /* The same event with too short a buffer, slices of other lengths, or over a spoilt copy of the table. It leaves no trace, and the walk goes on. */
@@ -70,7 +68,7 @@ static void play(const uint8_t *p, size_t count, struct call *call, struct chanc
             count - at - HEADER < length)
             return;
         if (first) {
-            take_settings(call, p + at + HEADER);
+            take_settings(call, p + at + HEADER, length);
         } else {
             take_event(call, kind, p + at + HEADER, length);
             call->index++;
@@ -104,7 +102,7 @@ bool run_corpus(const char *path, struct chance *chance)
     }
     fclose(file);
     memset(&call, 0, sizeof call);
-    lend_usual(&call);
+    lend_usual(&call, chance);
     call.table_kind = TABLE_CORPUS;
     call.source = path;
     play(octets, count, &call, chance);

@@ -12,8 +12,9 @@ peer_settings draw_settings(struct chance *c, uint8_t role);
 void spoil_settings(struct chance *c, peer_settings *s);
 uint64_t own_of(const struct call *call);
 
-/* Table, settings and answer of the lengths that a host has. Then now and then another length of settings or answer. */
-void lend_usual(struct call *call);
+/* Table, settings and answer of the lengths that a host has: now and then settings from before there were editions. Then now and then
+   another length of settings or answer. */
+void lend_usual(struct call *call, struct chance *c);
 void draw_lengths(struct chance *c, struct call *call);
 
 /* A well-formed table, crowded or not; then one with a single field spoilt. */

@@ -24,15 +24,16 @@ peer_settings draw_settings(struct chance *c, uint8_t role)
     static const uint16_t timeouts[] = { 1, 2, 3, 10, 100, 1000, 1954, 65534, 65535 };
 
     return (peer_settings){ .own = { 2, 0, 0, 0, 0, 0x0a }, .authentication_timeout = ONE_OF(c, timeouts),
-                            .association_timeout = ONE_OF(c, timeouts), .role = role, .rsna = (uint8_t)below(c, 2) };
+                            .association_timeout = ONE_OF(c, timeouts), .role = role, .rsna = (uint8_t)below(c, 2),
+                            .edition = (uint8_t)(1 + below(c, 2)), .protection = (uint8_t)below(c, 2) };
 }
 
 void spoil_settings(struct chance *c, peer_settings *s)
 {
     static const uint64_t owns[] = { 0, 1, 0xffffffffffffu, 0x0a0000000003u };
-    static const uint8_t roles[] = { 0, 3, 4, 128, 255 };
+    static const uint8_t odd[] = { 0, 3, 4, 128, 255 };
 
-    switch (below(c, 5)) {
+    switch (below(c, 7)) {
     case 0:
         pt_put48(s->own, ONE_OF(c, owns));
         break;
@@ -43,7 +44,13 @@ void spoil_settings(struct chance *c, peer_settings *s)
         s->association_timeout = 0;
         break;
     case 3:
-        s->role = ONE_OF(c, roles);
+        s->role = ONE_OF(c, odd);
+        break;
+    case 4:
+        s->edition = ONE_OF(c, odd);
+        break;
+    case 5:
+        s->protection = (uint8_t)(2 + below(c, 254));
         break;
     default:
         s->rsna = (uint8_t)(2 + below(c, 254));
@@ -55,16 +62,16 @@ uint64_t own_of(const struct call *call)
     return pt_get48(call->settings.own);
 }
 
-void lend_usual(struct call *call)
+void lend_usual(struct call *call, struct chance *c)
 {
     call->table_octets = PEER_TABLE_OCTETS;
-    call->settings_octets = PEER_SETTINGS_OCTETS;
+    call->settings_octets = percent(c, 25) ? PEER_SETTINGS_OCTETS_LEAST : PEER_SETTINGS_OCTETS;
     call->answer_octets = PEER_ANSWER_OCTETS;
 }
 
 void draw_lengths(struct chance *c, struct call *call)
 {
-    static const size_t settings[] = { 0, 1, 8, 10, 11, 13, 14, 16, 18, 24, 64 }, answers[] = { 0, 1, 12, 16, 23, 24, 25, 32, 64 };
+    static const size_t settings[] = { 0, 1, 8, 11, 12, 13, 14, 15, 16, 18, 24, 64 }, answers[] = { 0, 1, 12, 16, 23, 24, 25, 32, 64 };
 
     if (percent(c, 60))
         call->settings_octets = ONE_OF(c, settings);

@@ -46,11 +46,19 @@ bool table_of(const uint8_t *octets, struct pt_record *table)
     return held;
 }
 
-struct pt_settings settings_of(const peer_settings *settings)
+bool settings_length(size_t octets)
 {
+    return octets == PEER_SETTINGS_OCTETS || octets == PEER_SETTINGS_OCTETS_LEAST;
+}
+
+struct pt_settings settings_of(const peer_settings *settings, size_t octets)
+{
+    bool whole = octets >= PEER_SETTINGS_OCTETS;
+
     return (struct pt_settings){
         .own = pt_get48(settings->own), .role = settings->role, .rsna = settings->rsna,
         .auth_timeout = settings->authentication_timeout, .assoc_timeout = settings->association_timeout,
+        .edition = whole ? settings->edition : PEER_EDITION_1, .protection = whole ? settings->protection : 0,
     };
 }
 

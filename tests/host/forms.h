@@ -11,7 +11,9 @@ void octets_of(const struct pt_record *table, uint8_t *octets);
 /* Reads 512 octets; false where a place has an exchange number that the independent form can't hold. */
 bool table_of(const uint8_t *octets, struct pt_record *table);
 
-struct pt_settings settings_of(const peer_settings *settings);
+/* The lengths of settings: 12, which are of edition 1 without protection, and 14. Then the settings of which so many octets are lent. */
+bool settings_length(size_t octets);
+struct pt_settings settings_of(const peer_settings *settings, size_t octets);
 
 /* Writes the 24 octets of an answer. */
 void octets_of_answer(const struct pt_answer *answer, uint8_t *octets);

@@ -32,7 +32,7 @@ void run_shot(unsigned long number, struct chance *c)
     unsigned sort = below(c, 100);
 
     call.settings = draw_settings(c, percent(c, 50) ? PEER_AP : PEER_STATION);
-    lend_usual(&call);
+    lend_usual(&call, c);
     call.table_kind = TABLE_DRAWN;
     call.source = "the single shots";
     call.index = number + 1;

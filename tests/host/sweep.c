@@ -11,7 +11,7 @@ static void fresh(struct chance *c, enum call_kind kind, uint8_t role, const cha
 {
     memset(&call, 0, sizeof call);
     call.settings = draw_settings(c, role);
-    lend_usual(&call);
+    lend_usual(&call, c);
     call.table_kind = TABLE_DRAWN;
     call.source = source;
     draw_table(c, &call.settings, call.table);
@@ -112,13 +112,13 @@ static void sweep_numbers(struct chance *c, uint8_t role)
 static void sweep_settings(struct chance *c, enum call_kind kind, uint8_t role)
 {
     static const uint16_t timeouts[] = { 0, 1, 65535 };
+    uint8_t *const octets[] = { &call.settings.role, &call.settings.rsna, &call.settings.edition, &call.settings.protection };
 
-    for (unsigned i = 0; i < 256; i++) {
+    for (unsigned i = 0; i < 4 * 128; i++) {
+        unsigned value = i % 128;
+
         fresh(c, kind, role, "the sweep of settings");
-        if (i < 128)
-            call.settings.role = (uint8_t)(i < 8 ? i : i * 2);
-        else
-            call.settings.rsna = (uint8_t)(i < 136 ? i - 128 : (i - 128) * 2);
+        *octets[i / 128] = (uint8_t)(value < 8 ? value : value * 2);
         made(c, i);
     }
     for (unsigned i = 0; i < 9 + 60; i++) {

@@ -1,11 +1,11 @@
-/* tally.c - counts by call, table, refusal, verdict, notice, word to the distribution system, state and timeouts. */
+/* tally.c - counts by call, table, refusal, verdict, notice, word to the distribution system, state, timeouts and rejections. */
 #include "tally.h"
 
 #include <stdio.h>
 
 enum { MOST = 33 };
 
-enum field { CALLS, TABLES, REFUSALS, VERDICTS, NOTICES, DS_WORDS, STATES, TIMEOUTS, FIELDS };
+enum field { CALLS, TABLES, REFUSALS, VERDICTS, NOTICES, DS_WORDS, STATES, TIMEOUTS, REJECTIONS, FIELDS };
 
 /* What each field is called and how many values it has, all of which must be seen; refusals also for each call, below. */
 static const struct {
@@ -20,6 +20,7 @@ static const struct {
     [DS_WORDS] = { "distribution system", 3 },
     [STATES] = { "state", 5 },
     [TIMEOUTS] = { "timeouts of a clock step", 33 },
+    [REJECTIONS] = { "rejection (settings of 12, edition 1, edition 2 to State 2 and 3, with protection to State 2, 3 and 4)", 7 },
 };
 
 /* The refusals that each call can give, as bits. */
@@ -30,6 +31,18 @@ static unsigned long counts[FIELDS][MOST], refusals[CALL_KINDS][10], total;
 unsigned long tally_calls(void)
 {
     return total;
+}
+
+/* A (re)association that an AP rejects, by the rule that it follows and where that leads. */
+static unsigned rejection(const struct call *call, uint8_t state)
+{
+    const peer_settings *s = &call->settings;
+
+    if (call->settings_octets == PEER_SETTINGS_OCTETS_LEAST)
+        return 0;
+    if (s->edition == PEER_EDITION_1)
+        return 1;
+    return (s->protection ? 4u : 2u) + state - PEER_STATE_2;
 }
 
 void tally_add(const struct call *call, const struct pt_answer *answer)
@@ -45,6 +58,9 @@ void tally_add(const struct call *call, const struct pt_answer *answer)
     refusals[call->kind][answer->refusal]++;
     if (call->kind == CALL_PASS && answer->refusal == PT_DONE)
         counts[TIMEOUTS][answer->written / PEER_TIMEOUT_OCTETS]++;
+    if (call->kind == CALL_ASK && answer->refusal == PT_DONE && call->number != PEER_STATUS_SUCCESS &&
+        (call->primitive == PEER_ASSOCIATE_RESPONSE || call->primitive == PEER_REASSOCIATE_RESPONSE))
+        counts[REJECTIONS][rejection(call, answer->state)]++;
 }
 
 static bool print_field(enum field field)

@@ -34,7 +34,7 @@ static void on_at_ap(struct chance *c, struct call *call, const struct pt_record
     if (r->phase == PT_AWAITING)
         next_primitive(call, PEER_TRANSMIT_REPORT, PEER_ACKNOWLEDGED);
     else if (r->phase == PT_ASKED)
-        next_primitive(call, answers[r->kind], PEER_STATUS_SUCCESS);
+        next_primitive(call, answers[r->kind], percent(c, 75) ? PEER_STATUS_SUCCESS : PEER_STATUS_TRY_LATER);
     else if (r->state < 2)
         next_frame(c, call, MANAGEMENT, PT_AUTH, 30);
     else if (r->state == 2 || again)
@@ -100,7 +100,7 @@ void run_walk(unsigned long number, unsigned long calls, struct chance *c)
 
     memset(&call, 0, sizeof call);
     call.settings = draw_settings(c, number % 2 ? PEER_AP : PEER_STATION);
-    lend_usual(&call);
+    lend_usual(&call, c);
     call.table_kind = TABLE_WALK;
     call.source = "the walks";
     if (percent(c, 25))

@@ -155,8 +155,17 @@ static void disassociate(struct pt_step *t, uint16_t reason)
     confirm(t, PT_DISASSOC_CONFIRM, reason);
 }
 
+/* The state after an AP's own rejection. The first edition sets State 2; the second moves State 4
+   to 3 only, and no state at all where management frames are protected. */
+static uint8_t rejected_state(const struct pt_settings *s, uint8_t state)
+{
+    if (s->edition == 1)
+        return 2;
+    return state == 4 && !s->protection ? 3 : state;
+}
+
 /* 7, 8: status 0 gives AID = place + 1 and awaits the acknowledgement, state kept; another status
-   gives AID 0 and State 2, and the exchange ends. */
+   gives AID 0 and the state of a rejection, and the exchange ends. */
 static void associate_response(struct pt_step *t, uint8_t kind, uint16_t status)
 {
     if (status == 0) {
@@ -166,7 +175,7 @@ static void associate_response(struct pt_step *t, uint8_t kind, uint16_t status)
     }
     pt_write_response(t, kind, status, 0);
     end_exchange(t);
-    pt_move(t, 2);
+    pt_move(t, rejected_state(t->s, t->record->state));
 }
 
 static void act(struct pt_step *t, unsigned primitive, uint16_t code)

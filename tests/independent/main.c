@@ -13,6 +13,7 @@
 #include <string.h>
 
 enum { HEADER = 5, SCRATCH = 256, OUTPUT_BUFFER = 1 << 16 };
+enum { SETTINGS_FIRST = 12, SETTINGS_EDITIONS = 14 }; /* lengths, without and with the edition */
 enum record_kind { SETTINGS = 0, PRIMITIVE = 1, FRAME = 2, CLOCK = 3 };
 enum got { GOT_RECORD, GOT_END, GOT_FAULT, GOT_READ_ERROR };
 
@@ -29,12 +30,12 @@ struct bench {
     uint64_t events;
 };
 
-/* The length each kind of record must have: 12, 9, a frame of 0 to 4,096, 2. */
+/* The length each kind of record must have: 12 or 14, 9, a frame of 0 to 4,096, 2. */
 static bool length_fits(unsigned kind, size_t length)
 {
     switch (kind) {
     case SETTINGS:
-        return length == 12;
+        return length == SETTINGS_FIRST || length == SETTINGS_EDITIONS;
     case PRIMITIVE:
         return length == 9;
     case FRAME:
@@ -64,14 +65,17 @@ static enum got read_record(struct input *in, bool first)
     return GOT_RECORD;
 }
 
-/* Role, own address, RSNA, authentication and association timeouts; out of range is no fault here. */
-static void take_settings(struct pt_settings *s, const uint8_t *body)
+/* Role, own address, RSNA, authentication and association timeouts, then edition and protection:
+   1 and 0 where the record is the shorter one. Out of range is no fault here. */
+static void take_settings(struct pt_settings *s, const uint8_t *body, size_t length)
 {
     s->role = body[0];
     s->own = pt_get48(body + 1);
     s->rsna = body[7];
     s->auth_timeout = pt_get16(body + 8);
     s->assoc_timeout = pt_get16(body + 10);
+    s->edition = length < SETTINGS_EDITIONS ? 1 : body[12];
+    s->protection = length < SETTINGS_EDITIONS ? 0 : body[13];
 }
 
 /* One event, with 256 zero bytes of scratch. */
@@ -147,7 +151,7 @@ static int bench(bool trace)
     enum got got = read_record(&in, true);
 
     if (got == GOT_RECORD) {
-        take_settings(&b.settings, in.body);
+        take_settings(&b.settings, in.body, in.length);
         while (!ferror(stdout) && (got = read_record(&in, false)) == GOT_RECORD) {
             struct pt_answer a = run(&b, &in);
 

@@ -50,6 +50,8 @@ struct pt_settings {
     uint32_t assoc_timeout;
     uint8_t role;
     uint8_t rsna;
+    uint8_t edition;    /* 1 or 2: which rule a rejected (re)association follows at an AP */
+    uint8_t protection; /* management frames are protected; edition 1 does not look at it */
 };
 
 /* One place of the table. A free place is all zero. */

@@ -5,12 +5,13 @@
 
 enum { TIMEOUT_OCTETS = 8 }; /* what a clock step writes for each exchange timed out */
 
-/* Settings in range: role 1 or 2, RSNA 0 or 1, timeouts 1 to 65,535 TU, own address valid. */
+/* Settings in range: role 1 or 2, RSNA 0 or 1, timeouts 1 to 65,535 TU, own address valid, edition
+   1 or 2, protection 0 or 1. */
 static bool settings_fit(const struct pt_settings *s)
 {
     return (s->role == PT_AP || s->role == PT_STATION) && s->rsna <= 1 &&
            s->auth_timeout - 1 < PT_TIME_MAX && s->assoc_timeout - 1 < PT_TIME_MAX &&
-           pt_valid(s->own);
+           pt_valid(s->own) && (s->edition == 1 || s->edition == 2) && s->protection <= 1;
 }
 
 /* A free place has every field zero. */

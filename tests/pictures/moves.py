@@ -8,6 +8,7 @@ passes in a state where the list keeps it out, or the other way round.
 """
 
 import argparse
+import itertools
 import shlex
 import sys
 
@@ -23,9 +24,9 @@ PROBES = {"type 0 subtype 8": 1, "Public Action": 1, "Disassociation": 2, "type 
 
 
 def expanded(lines):
-    """The listed moves, one for each RSNA and each hold."""
-    return {situations.Move(*line._replace(rsna=rsna, hold=hold))
-            for line in lines for rsna in line.rsna for hold in line.hold}
+    """The listed moves, one for each RSNA, rule and hold."""
+    return {situations.Move(*line._replace(rsna=rsna, rule=rule, hold=hold))
+            for line in lines for rsna in line.rsna for rule in line.rule for hold in line.hold}
 
 
 def passing(turns):
@@ -41,9 +42,14 @@ def passing(turns):
     return {(state, klass) for (state, klass), verdicts in seen.items() if verdicts == {"A"}}
 
 
+def settings_words(role, rsna, rule):
+    return f"{ROLES[role]}, RSNA {rsna}, edition {rule[0]}, protection {rule[1]}"
+
+
 def shown(move):
     state = {0: "none"}
-    return (f"{ROLES[move.role]}, RSNA {move.rsna}: {state.get(move.before, move.before)} to "
+    return (f"{settings_words(move.role, move.rsna, move.rule)}: "
+            f"{state.get(move.before, move.before)} to "
             f"{state.get(move.after, move.after)} by {move.by}, {move.cause}; DS {move.ds}, "
             f"hold {move.hold}")
 
@@ -51,17 +57,17 @@ def shown(move):
 def derived(command):
     """All moves, what passes, and how much was tried; ends where a cause has two outcomes."""
     moves, passes, counts = set(), set(), [0, 0]
-    for role in ROLES:
-        for rsna in (0, 1):
-            turns = list(situations.explore(command, role, rsna))
-            fault = situations.one_cause_one_outcome(turns)
-            if fault:
-                raise situations.Trouble(f"{ROLES[role]}, RSNA {rsna}: {fault}")
-            passes |= passing(turns)
-            counts[0] += len({situations.situation(turn.before) for turn in turns})
-            counts[1] += len(turns)
-            for turn in turns:
-                moves.update(situations.moves_of(turn, role, rsna))
+    for role, rsna, rule in itertools.product(ROLES, *(choices["any"] for choices in
+                                                       (move_list.RSNA, move_list.RULES))):
+        turns = list(situations.explore(command, role, rsna, rule))
+        fault = situations.one_cause_one_outcome(turns)
+        if fault:
+            raise situations.Trouble(f"{settings_words(role, rsna, rule)}: {fault}")
+        passes |= passing(turns)
+        counts[0] += len({situations.situation(turn.before) for turn in turns})
+        counts[1] += len(turns)
+        for turn in turns:
+            moves.update(situations.moves_of(turn, role, rsna, rule))
     return moves, passes, counts
 
 

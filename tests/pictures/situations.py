@@ -23,7 +23,7 @@ RESET = [bench.primitive(3, PEER, 3), bench.primitive(3, OTHER, 3), bench.clock(
 Row = collections.namedtuple("Row", "state exchange left hold")
 NO_ROW = Row(0, 0, 0, 0)
 Turn = collections.namedtuple("Turn", "event verdict ds before after")
-Move = collections.namedtuple("Move", "role rsna before after ds hold by cause")
+Move = collections.namedtuple("Move", "role rsna rule before after ds hold by cause")
 
 
 class Trouble(Exception):
@@ -64,9 +64,10 @@ def alphabet(role, now):
     return events(PEER, now[1][0] == 0) + others + clocks()
 
 
-def tried(command, role, rsna, found):
-    """One turn for each event in each of the situations found, each begun from an empty table."""
-    records, trials = [bench.settings(role, OWN, rsna, TIMEOUT, TIMEOUT)], []
+def tried(command, role, rsna, rule, found):
+    """One turn for each event in each of the situations found, each begun from an empty table. The
+    rule is edition and protection."""
+    records, trials = [bench.settings(role, OWN, rsna, TIMEOUT, TIMEOUT, *rule)], []
     for now, path in found.items():
         for event in alphabet(role, now):
             records += RESET + path + [event.octets]
@@ -82,7 +83,7 @@ def tried(command, role, rsna, found):
         yield now, Turn(event, fields[2], fields[6], before, after)
 
 
-def explore(command, role, rsna):
+def explore(command, role, rsna, rule):
     """Every turn of every situation; the way to a situation is a list of records. Where the two
     peers' parts are exchanged it is the same situation."""
     start = situation((NO_ROW, NO_ROW))
@@ -90,7 +91,7 @@ def explore(command, role, rsna):
     while new:
         ways.update(new)
         found = {}
-        for now, turn in tried(command, role, rsna, new):
+        for now, turn in tried(command, role, rsna, rule, new):
             after = situation(turn.after)
             if after not in known:
                 known |= {after, after[::-1]}
@@ -131,13 +132,14 @@ def cause_of(turn, address, before, after):
     return f"{turn.event.cause}, {'from' if turn.event.by == 'frame' else 'to'} another AP"
 
 
-def moves_of(turn, role, rsna):
+def moves_of(turn, role, rsna, rule):
     """The moves that a turn makes: none, the peer's, the other's, or both."""
     for address, before, after in zip((PEER, OTHER), turn.before, turn.after):
         if before.state != after.state:
             ds = turn.ds if turn.event.about == address else "-"
-            yield Move(role, rsna, before.state, after.state, ds, hold_set(turn, before, after),
-                       turn.event.by, cause_of(turn, address, before, after))
+            yield Move(role, rsna, rule, before.state, after.state, ds,
+                       hold_set(turn, before, after), turn.event.by,
+                       cause_of(turn, address, before, after))
 
 
 def one_cause_one_outcome(turns):

@@ -27,6 +27,8 @@ REFUSED = [
     (f"{GOOD} rsna=2", "clock 1", 2, SETTINGS), (f"{GOOD} timeouts=0,1", "clock 1", 2, SETTINGS),
     (f"{GOOD} timeouts=1,0", "frame ack", 2, SETTINGS), ("ap own=broadcast", "clock 1", 2, SETTINGS),
     ("settings role=3 own=02:00:00:00:00:01", "clock 1", 2, SETTINGS),
+    (f"{GOOD} edition=0", "clock 1", 2, SETTINGS), (f"{GOOD} edition=3 protection=1", "frame ack", 2, SETTINGS),
+    (f"{GOOD} protection=2", "clock 1", 2, SETTINGS),
     (GOOD, "clock 0", 3, "a clock step is at least 1 TU"),
     (GOOD, "prim 255 02:00:00:00:00:0a", 3, ASKED),
     (GOOD, "prim report 02:00:00:00:00:0a acknowledged=2", 3, ASKED),
@@ -40,16 +42,18 @@ REFUSED = [
 TOLD = re.compile(r"^(prim|frame|clock) .*\n    [0-9]+  ", re.MULTILINE)
 
 
-def laid_out(file):
-    """The reader, the lines and the octets of a scenario."""
-    reader, lines = read.read(file.read_text(), file.name)
-    return reader, lines, read.bench_input(reader, lines)
+def laid_out(text, name):
+    """The reader, the lines and the bench inputs of a scenario, one for each settings line."""
+    reader, lines = read.read(text, name)
+    return reader, lines, read.bench_inputs(lines)
 
 
-def told(reader, lines, octets, command, with_table=False):
-    count = sum(len(line.events) for line in lines)
-    found = answers.read(answers.run(command, octets), count)
-    return show.transcript(reader, lines, found, with_table)
+def told(reader, lines, inputs, command, with_table=False):
+    return show.transcript(reader, lines, answers.to_all(command, inputs), with_table)
+
+
+def plain_lines(inputs, command):
+    return "".join(answers.run(command, octets) for octets, _ in inputs)
 
 
 def command_prints(*words):
@@ -60,20 +64,21 @@ def command_prints(*words):
 def check(file, bench, independent):
     """The faults of one example."""
     stored = file.with_suffix(".out").read_text()
-    reader, lines, octets = laid_out(file)
-    plain = answers.run(bench, octets)
-    tables = [told(reader, lines, octets, command, True)
+    reader, lines, inputs = laid_out(file.read_text(), file.name)
+    plain = plain_lines(inputs, bench)
+    tables = [told(reader, lines, inputs, command, True)
               for command in (bench + ["trace"], independent + ["-v"])]
     compared = {
         "the command": (stored, command_prints(str(file)).decode()),
-        "bench": (stored, told(reader, lines, octets, bench + ["trace"])),
-        "independent program": (stored, told(reader, lines, octets, independent + ["-v"])),
-        "plain lines of both": (plain, answers.run(independent, octets)),
+        "bench": (stored, told(reader, lines, inputs, bench + ["trace"])),
+        "independent program": (stored, told(reader, lines, inputs, independent + ["-v"])),
+        "plain lines of both": (plain, plain_lines(inputs, independent)),
         "--lines": (plain, command_prints("--lines", str(file)).decode()),
         "tables of both": tuple(tables),
         "--table": (tables[0], command_prints("--table", str(file)).decode()),
-        "--octets": (octets.hex(), command_prints("--octets", str(file)).hex()),
     }
+    if len(inputs) == 1:
+        compared["--octets"] = inputs[0][0].hex(), command_prints("--octets", str(file)).hex()
     found = {what: difference(*pair) for what, pair in compared.items()}
     return [f"{what}: {fault}" for what, fault in found.items() if fault]
 
@@ -82,8 +87,7 @@ def refused_values(bench):
     """What a field can hold and the rules refuse is played, and gets its number."""
     faults = []
     for settings, line, number, said in REFUSED:
-        reader, lines = read.read(f"{settings}\n{line}\n", "refused")
-        text = told(reader, lines, read.bench_input(reader, lines), bench + ["trace"])
+        text = told(*laid_out(f"{settings}\n{line}\n", "refused"), bench + ["trace"])
         if f"    1  refused {number}: {said}; nothing changes\n" not in text:
             faults.append(text)
     return faults
@@ -100,8 +104,7 @@ def readme(bench):
     if shown[0] not in (EXAMPLES / "nine_steps.out").read_text():
         faults.append("what it shows is not told of the nine steps")
     try:
-        reader, lines = read.read(own[0], "its scenario")
-        told(reader, lines, read.bench_input(reader, lines), bench + ["trace"])
+        told(*laid_out(own[0], "its scenario"), bench + ["trace"])
     except read.ScenarioFault as fault:
         faults.append(str(fault))
     return faults
@@ -112,7 +115,7 @@ def nine_steps():
     file = EXAMPLES / "nine_steps.scenario"
     crate = ROOT / "crates/bench"
     faults = []
-    if laid_out(file)[2] != (crate / "stdin").read_bytes():
+    if command_prints("--octets", str(file)) != (crate / "stdin").read_bytes():
         faults.append("the octets are not those of crates/bench/stdin")
     if command_prints("--lines", str(file)) != (crate / "stdout").read_bytes():
         faults.append("the lines are not those of crates/bench/stdout")

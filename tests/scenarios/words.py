@@ -14,26 +14,15 @@ from tests.comparison import generate
 from tools import bench_input as bench
 from tools.scenario import answers, frame_words, frames, manual, primitives, read
 
+from .laid_out import (OTHER, OWN, PEER, event, frames_as_laid_out, primitives_by_word_and_number,
+                       settings_as_laid_out)
 from .wrong import all_wrong
 
 ROOT = pathlib.Path(__file__).resolve().parents[2]
-OWN, PEER, OTHER = "02:00:00:00:00:01", "02:00:00:00:00:0a", "06:01:02:03:04:05"
 GENERATED = 2000
 ADDRESSES = (PEER, OTHER, "ff:ff:ff:ff:ff:ff", "00:00:00:00:00:00")
 OCTETS = {"00": b"\0", "3805030000000038": bytes.fromhex("3805030000000038"),
           "38050300": b"\x38\5\3\0", "dd00*200": b"\xdd\0" * 200}
-# The primitives by number, each with the name of its code.
-PRIMITIVES = (("authenticate", "code"), ("respond-authenticate", "status"),
-              ("deauthenticate", "reason"), ("associate", "code"), ("reassociate", "code"),
-              ("disassociate", "reason"), ("respond-associate", "status"),
-              ("respond-reassociate", "status"), ("set-protection", "code"),
-              ("report", "acknowledged"))
-
-
-def event(line, first=f"ap own={OWN}"):
-    """The one event of a line."""
-    _, lines = read.read(f"{first}\n{line}\n", "test")
-    return lines[1].events[0]
 
 
 def classes():
@@ -115,50 +104,6 @@ def generated_frames_round_trip():
     return faults + ([] if read_back > GENERATED // 2 else [f"only {read_back} frames read back"])
 
 
-def frames_as_laid_out():
-    """The usual frames, against the layouts that the other tests use."""
-    pairs = [
-        ("auth-request", bench.authentication(OWN, PEER)),
-        ("assoc-request", bench.association_request(OWN, PEER)),
-        (f"reassoc-request current-ap={OTHER}", bench.reassociation_request(OWN, PEER, OTHER)),
-        ("deauth", bench.deauthentication(OWN, PEER)),
-        ("disassoc", bench.disassociation(OWN, PEER)),
-        ("data", bench.data(OWN, PEER)),
-        ("qos-data", bench.data(OWN, PEER, b"\0\0", subtype=8)),
-        ("rts", bench.control(bench.RTS, OWN, PEER)),
-        ("action", bench.action(OWN, PEER)),
-        ("action category=5 body=00", bench.action(OWN, PEER, b"\5\0")),
-        ("action-no-ack category=4", bench.action(OWN, PEER, b"\4", bench.ACTION_NO_ACK)),
-        ("public-action", bench.action(OWN, PEER, b"\4")),
-        ("public-action body=0a01", bench.action(OWN, PEER, b"\4\x0a\1")),
-        ("public-action flags=0x40", bench.action(OWN, PEER, b"\4", flags=bench.PROTECTED)),
-        ("public-action length=24", bench.action(OWN, PEER)),
-        ("auth-request length=29", bench.authentication(OWN, PEER)[:29]),
-    ]
-    elements = bench.timeout_interval(5) + b"\xdd\0"
-    response = bench.association_response(OWN, PEER, 17, 0, elements=elements)
-    at_station = event(f"frame assoc-response from={PEER} status=17 comeback=5 elements=dd00",
-                       f"station own={OWN}")
-    faults = [] if at_station.frame == response else ["assoc-response at a station"]
-    rsna = event(f"frame assoc-request from={PEER}", f"ap own={OWN} rsna=1")
-    if rsna.frame != bench.association_request(OWN, PEER, capability=0x0011):
-        faults.append("assoc-request where RSNA is required")
-    return faults + [f"frame {words}" for words, octets in pairs
-                     if event(f"frame {words} from={PEER}").frame != octets]
-
-
-def primitives_by_word_and_number():
-    """A primitive by its word is the one by its number, with the code by either name."""
-    faults = []
-    for at, (word, code) in enumerate(PRIMITIVES, 1):
-        wanted = bench.primitive(at, PEER, 1)
-        for line in (f"prim {word} {PEER} {code}=1", f"prim {at} {PEER} {code}=1",
-                     f"prim {word} {PEER} code=1"):
-            if event(line).record != wanted:
-                faults.append(line)
-    return faults + ([] if len(PRIMITIVES) == len(primitives.TABLE) else ["more primitives"])
-
-
 def odd_answers_are_told():
     """A bench program that prints what it never should, or can't be run, is a fault with a line."""
     line, place = "1 0 - 0 0 0 - 0\n", "  place 0 02000000000a 1 0 0 0\n"
@@ -197,6 +142,19 @@ def faults_are_told():
     return faults
 
 
+def twice_settled_has_no_octets():
+    """A scenario with two settings lines is no single bench input."""
+    with tempfile.TemporaryDirectory() as folder:
+        file = pathlib.Path(folder) / "twice.scenario"
+        file.write_text(f"ap own={OWN}\nclock 1\nap own={OWN} edition=2\nclock 1\n")
+        done = subprocess.run([str(ROOT / "scenario"), "--octets", str(file)],
+                              capture_output=True, text=True)
+    said = (f"scenario: {file}: settings are given 2 times, a bench input has them once: "
+            "--octets is for a scenario with one settings line\n")
+    got = done.returncode, done.stdout, done.stderr
+    return [] if got == (1, "", said) else [str(got)]
+
+
 def command_line_faults():
     """Wrong uses of the command get one line that says how it is used."""
     usage = "scenario [--table | --lines | --octets] FILE, or scenario --help"
@@ -216,17 +174,18 @@ def command_line_faults():
 
 
 def help_is_whole():
-    """Each word, field and primitive stands in the help, and --help prints it."""
+    """Each word, field, primitive and setting stands in the help, and --help prints it."""
     done = subprocess.run([str(ROOT / "scenario"), "--help"], capture_output=True, text=True)
     words = list(frame_words.BY_WORD) + list(frame_words.FIELDS) + list(primitives.BY_WORD)
     missing = [word for word in words if f"  {word}" not in done.stdout]
+    missing += [name for name in read.SETTINGS if f"{name}=" not in done.stdout]
     return missing + ([] if done.stdout == manual.text() else ["--help prints something else"])
 
 
 def main():
     tests = (words_cover_classes, frames_round_trip, generated_frames_round_trip,
-             frames_as_laid_out, help_is_whole, primitives_by_word_and_number,
-             odd_answers_are_told, faults_are_told, command_line_faults)
+             frames_as_laid_out, settings_as_laid_out, help_is_whole, primitives_by_word_and_number,
+             odd_answers_are_told, faults_are_told, twice_settled_has_no_octets, command_line_faults)
     failed = 0
     for test in tests:
         faults = test()

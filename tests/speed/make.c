@@ -11,7 +11,8 @@ struct maker maker_of(struct stream *stream, uint64_t seed, uint8_t role)
     memset(stream, 0, sizeof *stream);
     memset(frames, 0, frames_used);
     frames_used = 0;
-    stream->settings = (peer_settings){ .role = role, .authentication_timeout = 60000, .association_timeout = 60000 };
+    stream->settings = (peer_settings){ .role = role, .authentication_timeout = 60000, .association_timeout = 60000,
+                                        .edition = PEER_EDITION_1 };
     peer_address_write(OWN, stream->settings.own);
     return (struct maker){ .stream = stream, .chance = chance_of(seed) };
 }

@@ -30,7 +30,7 @@ static struct pt_answer by_independent(const struct pt_settings *s, const struct
 
 static bool one_compared(const struct stream *stream, const struct event *e)
 {
-    struct pt_settings s = settings_of(&stream->settings);
+    struct pt_settings s = settings_of(&stream->settings, PEER_SETTINGS_OCTETS);
     uint8_t wanted[PEER_TABLE_OCTETS], answer[PEER_ANSWER_OCTETS];
     peer_answer a = by_library(&stream->settings, e);
     struct pt_answer b = by_independent(&s, e, other_out);
@@ -94,7 +94,7 @@ static __attribute__((noinline)) void round_of_nothing(const struct stream *stre
 /* Each round brings both tables back, whoever plays, so that this cost is the same for all three. */
 void play(enum player player, const struct stream *stream, unsigned rounds)
 {
-    struct pt_settings s = settings_of(&stream->settings);
+    struct pt_settings s = settings_of(&stream->settings, PEER_SETTINGS_OCTETS);
 
     for (unsigned round = 0; round < rounds; round++) {
         lent = first_lent;

@@ -8,11 +8,14 @@ LIST = ROOT / "docs" / "pictures" / "moves.txt"
 
 ROLES = {"ap": 1, "station": 2}
 RSNA = {"0": (0,), "1": (1,), "any": (0, 1)}
+# The rules by edition and protection.
+RULES = {"1": ((1, 0), (1, 1)), "2": ((2, 0),), "2p": ((2, 1),),
+         "any": ((1, 0), (1, 1), (2, 0), (2, 1))}
 STATES = {"none": 0, "1": 1, "2": 2, "3": 3, "4": 4}
-COLUMNS = 8
+COLUMNS = 9
 
-# One line of the list; `rsna` and `hold` are tuples, states are numbers and 0 is no record.
-Listed = collections.namedtuple("Listed", "role rsna before after ds hold by cause")
+# One line of the list; `rsna`, `rule` and `hold` are tuples, states are numbers and 0 is no record.
+Listed = collections.namedtuple("Listed", "role rsna rule before after ds hold by cause")
 
 
 class Fault(Exception):
@@ -29,10 +32,11 @@ def one_of(number, what, word, choices):
 def listed(number, words):
     if len(words) < COLUMNS:
         raise Fault(f"{LIST.name}, line {number}: {len(words)} columns, not {COLUMNS}")
-    role, rsna, before, after, ds, hold, by, cause = words
+    role, rsna, rule, before, after, ds, hold, by, cause = words
     return Listed(one_of(number, "role", role, ROLES), one_of(number, "RSNA", rsna, RSNA),
-                  one_of(number, "from", before, STATES), one_of(number, "to", after, STATES),
-                  one_of(number, "DS", ds, ("-", "J", "L")), tuple(hold.split(",")), by, cause)
+                  one_of(number, "rule", rule, RULES), one_of(number, "from", before, STATES),
+                  one_of(number, "to", after, STATES), one_of(number, "DS", ds, ("-", "J", "L")),
+                  tuple(hold.split(",")), by, cause)
 
 
 def read(path=LIST):

@@ -15,6 +15,13 @@ def authentication_keeps(moves):
     return all(move.before < 2 for move in moves if move.cause.startswith(names))
 
 
+def protected_rejection_keeps(moves):
+    """No rejection moves a state in edition 2 with protection; without, it lowers State 4 to 3 alone."""
+    seen = {(rule, move.before, move.after) for move in moves for rule in move.rule
+            if move.by in ("primitive-7", "primitive-8") and rule[0] == 2}
+    return seen == {((2, 0), 4, 3)}
+
+
 def freed_by_clock(moves):
     return {move.by for move in moves if move.after == 0} == {"clock"}
 
@@ -34,6 +41,8 @@ NOTES = {
     1: ((("The response moves nothing: the state rises", "at the report of its acknowledgement."),
          rises_at_report),
         REPEATED,
+        (("A rejection in edition 2 lowers State 4 to 3;", "with protected management frames it",
+          "moves nothing."), protected_rejection_keeps),
         (("A place is freed by the clock alone,", "never by a deauthentication."),
          freed_by_clock)),
     2: ((("A success with an AID outside 1 to 2007", "moves nothing."), bad_aid_does_nothing),

@@ -2,15 +2,16 @@
 
 import collections
 
+from .conditions import TAGS, condition
 from .labels import Label, block, block_size, mark
 from .move_list import Fault
 from .notes import NOTES, belied
 from .svg import AMBER, MUTED, PAPER, Canvas
 
-WIDTH, HEIGHT = 1112, 930
-BOX_X, BOX_WIDTH, BOX_HEIGHT = 250, 282, 68
+WIDTH, HEIGHT = 1280, 954
+BOX_X, BOX_WIDTH, BOX_HEIGHT = 250, 376, 68
 BOX_END = BOX_X + BOX_WIDTH
-TOPS = {0: 90, 1: 218, 2: 340, 3: 528, 4: 732}
+TOPS = {0: 90, 1: 218, 2: 340, 3: 528, 4: 756}
 DOWN, UP = BOX_X + 12, BOX_END - 10
 LEFT_BUS, RIGHT_BUS = BOX_X - 26, BOX_END + 24
 NAMES = {0: ("No record", "counts as State 1"), 1: ("State 1", "not authenticated"),
@@ -18,7 +19,7 @@ NAMES = {0: ("No record", "counts as State 1"), 1: ("State 1", "not authenticate
          3: ("State 3", "associated, the RSNA not yet set up"), 4: ("State 4", "associated")}
 FILLS = {0: PAPER, 1: "#eff2f5", 2: "#ddf0ff", 3: "#fff5c2", 4: "#d8f5df"}
 TITLES = {1: "A peer's state at an access point", 2: "An access point's state at a station"}
-NOTES_X, NOTES_Y = 806, 96
+NOTES_X, NOTES_Y = 900, 96
 
 # An arrow stands for the moves from any of some states to one; they must have the same causes.
 ARROWS = (((0,), 1), ((1,), 2), ((2,), 3), ((3,), 4), ((4,), 3), ((2,), 4), ((3, 4), 2),
@@ -34,14 +35,11 @@ def states_words(states):
     return "State " + " and ".join(str(state) for state in states)
 
 
-def headings(froms, to, moves):
-    """For which networks the moves are, where that is not plain, and what they tell the DS; of a
-    move back whose labels stand between two arrows, where it goes."""
-    lines = []
-    rsna = {move.rsna for move in moves}
-    if rsna in ({(0,)}, {(1,)}) and froms != (3,):
-        lines.append(("back to State 3, " if to < froms[0] else "")
-                     + ("RSNA required" if rsna == {(1,)} else "RSNA not required"))
+def headings(froms, to, moves, under):
+    """Under which settings the moves are made, where that is said of all at once, and what they tell
+    the DS; of a move back whose labels stand between two arrows, where it goes."""
+    back = "back to State 3" if (froms, to) == ((4,), 3) else None
+    lines = [", ".join(filter(None, (back, under)))] if back or under else []
     for letter, word in (("J", "joined"), ("L", "left")):
         told = [state for state in froms if {m.ds for m in moves if m.before == state} == {letter}]
         if told:
@@ -50,18 +48,32 @@ def headings(froms, to, moves):
     return [Label("heading", line) for line in lines]
 
 
+def causes(state, to, moves):
+    """Each cause of a move from a state to one, once: its mark, its words, whether it sets the hold,
+    and under which settings it moves."""
+    leaving = [m for m in moves if m.before == state]
+    found = {}
+    for move in leaving:
+        if move.after == to:
+            found.setdefault((move.by, move.cause), []).append(move)
+    return [(by, cause, None if same[0].hold == ("kept",) else "hold", condition(same, leaving))
+            for (by, cause), same in found.items()]
+
+
 def arrow(froms, to, moves):
     """The moves of one arrow as labels; a fault where two of its states have other causes."""
-    found = {state: [Label(m.by, m.cause,
-                           None if m.hold == ("kept",) else "hold")
-                     for m in moves if (m.before, m.after) == (state, to)] for state in froms}
+    found = {state: causes(state, to, moves) for state in froms}
     first = found[froms[0]]
-    for state, labels in found.items():
-        if not labels or sorted(map(str, labels)) != sorted(map(str, first)):
+    for state, rows in found.items():
+        if not rows or sorted(map(str, rows)) != sorted(map(str, first)):
             raise Fault(f"states: {states_words((froms[0],))} and {states_words((state,))} go to "
                         f"{to} by other causes, so one arrow can't show both")
+    under = {row[3] for row in first}
+    alike = under.pop() if len(under) == 1 else None
+    labels = [Label(by, cause, ", ".join(filter(None, (hold, not alike and TAGS.get(when, when)))) or None)
+              for by, cause, hold, when in first]
     drawn = [m for m in moves if m.before in froms and m.after == to]
-    return Arrow(froms, to, headings(froms, to, drawn) + first)
+    return Arrow(froms, to, headings(froms, to, drawn, alike) + labels)
 
 
 def arrows(role, moves):
@@ -155,6 +167,8 @@ def legend(canvas, holds):
     else:
         canvas.text(x, y, "DS", fill=MUTED)
         canvas.text(x + 30, y, "the distribution system")
+        canvas.text(x + 196, y, "edition 2", bold=True, fill=AMBER)
+        canvas.text(x + 266, y, "by the settings, without protection")
     canvas.text(34, y + 26, "Every move there is: docs/pictures/moves.txt, held against the "
                 "program by tests/pictures/moves.py. What is not shown moves no state.", 11.5, fill=MUTED)
 

@@ -63,3 +63,8 @@ def read(printed, events):
     if [event["number"] for event in found] != list(range(1, events + 1)):
         raise BenchFault(f"the bench program gave {len(found)} answers to {events} events")
     return [Answer(**event) for event in found]
+
+
+def to_all(command, inputs):
+    """The answers to bench inputs, each octets and a number of events, one after the other."""
+    return [answer for octets, events in inputs for answer in read(run(command, octets), events)]

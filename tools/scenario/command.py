@@ -50,13 +50,15 @@ def load(file):
 def produce(option, file, command):
     """The octets that go to standard output."""
     reader, lines = read.read(*load(file))
-    octets = read.bench_input(reader, lines)
+    inputs = read.bench_inputs(lines)
     if option == "--octets":
-        return octets
+        if len(inputs) > 1:
+            raise UsageFault(f"{file}: settings are given {len(inputs)} times, a bench input has them once: "
+                             "--octets is for a scenario with one settings line")
+        return inputs[0][0]
     if option == "--lines":
-        return answers.run(command, octets).encode()
-    count = sum(len(line.events) for line in lines)
-    found = answers.read(answers.run(command + ["trace"], octets), count)
+        return "".join(answers.run(command, octets) for octets, _ in inputs).encode()
+    found = answers.to_all(command + ["trace"], inputs)
     return show.transcript(reader, lines, found, option == "--table").encode()
 
 

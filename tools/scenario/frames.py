@@ -14,11 +14,11 @@ COMEBACK_HEAD = bytes((bench.TIMEOUT_INTERVAL, 5, bench.COMEBACK))
 QOS = 8
 
 
-def default(row, name, own, role, rsna, given):
+def default(row, name, settings, given):
     """The value of a field that the line leaves out."""
-    at_ap = role == bench.ACCESS_POINT
+    own, at_ap = settings.own, settings.role == bench.ACCESS_POINT
     usual = {"to": own, "third": own if at_ap else given.get("from", own),
-             "capability": 0x0011 if rsna == 1 else 0x0001, "listen-interval": 10,
+             "capability": 0x0011 if settings.rsna == 1 else 0x0001, "listen-interval": 10,
              "transaction": 1 if row.word == "auth-request" else 2,
              "aid": 0 if given.get("status") else 1,
              "reason": 8 if row.word == "disassoc" else 3,
@@ -30,7 +30,7 @@ def default(row, name, own, role, rsna, given):
     return usual.get(name, 0)
 
 
-def filled(row, given, own, role, rsna):
+def filled(row, given, settings):
     """Every field of the frame: those given, and the usual ones."""
     for name in ("from", "current-ap"):
         if name in frame_words.fields_of(row) and name not in given:
@@ -39,7 +39,7 @@ def filled(row, given, own, role, rsna):
         raise Fault("aid and aid-field are one field: give one of them")
     if given.get("flags", 0) & DS_BITS:
         raise Fault("flags: the two lowest bits are to-ds and from-ds: give those by name")
-    return {name: given[name] if name in given else default(row, name, own, role, rsna, given)
+    return {name: given[name] if name in given else default(row, name, settings, given)
             for name in frame_words.fields_of(row)}
 
 

@@ -22,7 +22,10 @@ A scenario, one thing a line, '#' to the end of the line a comment:
   clock 1
 
 Settings come first: 'ap' or 'station' (or 'settings role=N') with own=ADDRESS, rsna=0|1 (0 if not
-given) and timeouts=AUTHENTICATION,ASSOCIATION in TU (100,100). A TU is 1,024 microseconds.
+given) and timeouts=AUTHENTICATION,ASSOCIATION in TU (100,100). A TU is 1,024 microseconds. Also
+edition=1|2 (1) and protection=0|1 (0): the rule for an association that an AP rejects. Edition 1 puts the
+peer to State 2; edition 2 puts State 4 to 3 and keeps others, with protection it keeps State 4 too.
+Another settings line begins anew: an empty table, events counted from 1, the names kept.
 
   name NAME = ADDRESS              a name for an address; 'own' and 'broadcast' have theirs
   name scanner-1..30 = ADDRESS     thirty names, for this address and those that follow it

@@ -10,10 +10,13 @@ from .values import Fault, Names, number, octets, one_of
 # An event: its record, kind ('frame', 'prim', 'clock'), the peer it names, the primitive's number,
 # the octets of a frame, and whether the scenario gives these by themselves.
 Event = collections.namedtuple("Event", "record kind peer primitive frame raw")
-Line = collections.namedtuple("Line", "text events")
-Settings = collections.namedtuple("Settings", "role own rsna timeouts")
+# A line, its events, and the settings that it gives, None where it gives none.
+Line = collections.namedtuple("Line", "text events settings")
+# Edition and protection are None where they are not given; the record is the bench's.
+Settings = collections.namedtuple("Settings", "role own rsna timeouts edition protection record")
 
 ROLES = {"ap": bench.ACCESS_POINT, "station": bench.STATION}
+SETTINGS = ["own", "rsna", "timeouts", "edition", "protection"]
 FIRST = "ap, station or settings"
 VERBS = ("name", "ap", "station", "settings", "frame", "prim", "clock")
 
@@ -39,37 +42,37 @@ def _pairs(words, known, what):
 
 
 class Reader:
-    """Takes line after line; holds the names and the settings so far."""
+    """Takes line after line; holds the names so far and the settings that are in force."""
 
     def __init__(self):
-        self.names, self.settings, self.settings_record = Names(), None, b""
+        self.names, self.settings = Names(), None
 
-    def events(self, text):
-        """The events that a line makes: none, one, or one for each address of a range."""
+    def line(self, text):
+        """A line with its events, none, one, or one for each address of a range, or its settings."""
         words = text.split("#", 1)[0].split()
-        if not words:
-            return []
-        verb = one_of(words[0], VERBS, "word to begin a line")
-        if verb == "name":
-            self._name(" ".join(words[1:]))
-            return []
-        if self.settings is None:
-            if verb in ("frame", "prim", "clock"):
-                raise Fault(f"'{verb}' comes before the settings: the first line is {FIRST}")
-            self._settle(verb, words[1:])
-            return []
+        verb = one_of(words[0], VERBS, "word to begin a line") if words else "name"
         if verb in ("ap", "station", "settings"):
-            raise Fault(f"a second '{verb}': the settings come once, at the start")
-        return {"frame": self._frame, "prim": self._prim, "clock": self._clock}[verb](words[1:])
+            self.begin(self._settings(verb, words[1:]))
+            return Line(text.rstrip(), [], self.settings)
+        if verb != "name" and self.settings is None:
+            raise Fault(f"'{verb}' comes before the settings: the first line is {FIRST}")
+        takes = {"name": self._name, "frame": self._frame, "prim": self._prim, "clock": self._clock}
+        return Line(text.rstrip(), takes[verb](words[1:]) if words else [], None)
 
-    def _name(self, rest):
-        name, equals, value = (part.strip() for part in rest.partition("="))
+    def begin(self, settings):
+        """From here on these settings are in force, and the table is empty."""
+        self.settings = settings
+        self.names.set_own(settings.own)
+
+    def _name(self, words):
+        name, equals, value = (part.strip() for part in " ".join(words).partition("="))
         if not (name and equals and value):
             raise Fault("a name line is: name NAME = ADDRESS")
         self.names.define(name, value)
+        return []
 
-    def _settle(self, verb, words):
-        known = ["own", "rsna", "timeouts"] + (["role"] if verb == "settings" else [])
+    def _settings(self, verb, words):
+        known = SETTINGS + ["role"] if verb == "settings" else SETTINGS
         given = _pairs(words, known, verb)
         if verb == "settings" and "role" not in given:
             raise Fault("settings needs role=N: 1 is an AP, 2 a station")
@@ -82,9 +85,9 @@ class Reader:
         if len(times) != 2:
             raise Fault("timeouts are two numbers, authentication and association: timeouts=100,100")
         times = [number(time, "timeouts", 0xFFFF) for time in times]
-        self.names.set_own(own)
-        self.settings = Settings(role, own, rsna, times)
-        self.settings_record = bench.settings(role, own, rsna, *times)
+        rule = [number(given[name], name, 255) if name in given else None
+                for name in ("edition", "protection")]
+        return Settings(role, own, rsna, times, *rule, bench.settings(role, own, rsna, *times, *rule))
 
     def _single(self, text, what):
         found = self.names.find(text, what)
@@ -120,8 +123,8 @@ class Reader:
         for at in range(count):
             given = {name: value[at % len(value)] if isinstance(value, list) else value
                      for name, value in values.items()}
-            role, own, rsna, _ = self.settings
-            made.append(self._heard(frames.encode(row, frames.filled(row, given, own, role, rsna))))
+            fields = frames.filled(row, given, self.settings)
+            made.append(self._heard(frames.encode(row, fields)))
         return made
 
     @staticmethod
@@ -159,7 +162,7 @@ def read(text, file):
     reader, lines = Reader(), []
     for at, line in enumerate(text.rstrip("\n").split("\n"), 1):
         try:
-            lines.append(Line(line.rstrip(), reader.events(line)))
+            lines.append(reader.line(line))
         except Fault as fault:
             said = "".join(sign if sign.isprintable() else "?" for sign in str(fault))
             raise ScenarioFault(f"{file}:{at}: {said}") from None
@@ -168,6 +171,15 @@ def read(text, file):
     return reader, lines
 
 
-def bench_input(reader, lines):
-    """The octets that the bench program takes."""
-    return reader.settings_record + b"".join(event.record for line in lines for event in line.events)
+def bench_inputs(lines):
+    """What the bench program takes: for each settings line the octets from there to the next, and how
+    many events they hold."""
+    inputs = []
+    for line in lines:
+        if line.settings:
+            inputs.append((line.settings.record, 0))
+        if line.events:
+            octets_, count = inputs[-1]
+            added = b"".join(event.record for event in line.events)
+            inputs[-1] = octets_ + added, count + len(line.events)
+    return inputs

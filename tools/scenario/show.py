@@ -4,7 +4,7 @@ from . import codes, merge, words
 
 INDENT = "    "
 EACH = "each"
-SETTINGS = ("ap", "station", "settings")
+PROTECTION = {0: "management frames not protected", 1: "management frames protected"}
 
 
 def _said(one, reader, name=None):
@@ -48,20 +48,28 @@ def _line(played, reader, with_table):
     return told
 
 
-def _settings(settings):
+def _settings(settings, again):
+    """What the settings mean; where they are not the first ones, that the table begins anew."""
     role = codes.ROLES.get(settings.role, f"role {settings.role}")
     rsna = {0: "not required", 1: "required"}.get(settings.rsna, str(settings.rsna))
-    return (f"{INDENT}{role}, RSNA {rsna}, timeouts: authentication {settings.timeouts[0]} TU, "
-            f"association {settings.timeouts[1]} TU")
+    text = (f"{INDENT}{'with an empty table again: ' if again else ''}{role}, RSNA {rsna}, timeouts: "
+            f"authentication {settings.timeouts[0]} TU, association {settings.timeouts[1]} TU")
+    if settings.edition is None and settings.protection is None:
+        return text
+    edition = 1 if settings.edition is None else settings.edition
+    protection = settings.protection or 0
+    return f"{text}, edition {edition}, {PROTECTION.get(protection, f'protection {protection}')}"
 
 
 def transcript(reader, lines, answers, with_table=False):
     """All lines of the scenario with the answers between them."""
-    told, at, before = [], 0, {}
+    told, at, before, again = [], 0, {}, False
     for line in lines:
         told.append(line.text)
-        if line.text.lstrip().startswith(SETTINGS):
-            told.append(_settings(reader.settings))
+        if line.settings:
+            told.append(_settings(line.settings, again))
+            reader.begin(line.settings)
+            before, again = {}, True
         played = []
         for event in line.events:
             played.append((event, answers[at], before))

@@ -7,7 +7,7 @@ use lib.Dec.{ltb, leb, eqb}
 use lib.ListN.{length, take, drop}
 use Rattle.octets.specs.Pick.{pick}
 use Rattle.octets.specs.Field.{field}
-use Rattle.table.specs.Boundary.{settingsIn}
+use Rattle.table.specs.Boundary.{settingsIn, settingsLength}
 use Rattle.table.specs.declared.rules.event.Event.{Event}
 use Rattle.table.specs.declared.rules.event.Event.the-variants.{Frame, Ask, Clock}
 use Rattle.bench.specs.declared.input.Taken.{Taken}
@@ -17,13 +17,13 @@ use Rattle.bench.specs.declared.input.Taken.the-variants.{Cut, Fault, Fi
 unfoldable pub marked : List ℕ → Bool
 marked xs = eqb (field 2 0 xs) 0x030b
 
--- "Kind 0, first and only there: .. 12 octets. Kind 1: .. 9. Kind 2: a frame, 0 to 4,096. Kind 3: clock step, 2."
+-- "Kind 0, first and only there: .. 12 octets", or 14 (02, K2). "Kind 1: .. 9. Kind 2: a frame, 0 to 4,096. Kind 3: clock step, 2."
 abbrev pub eventLength : ℕ → ℕ → Bool
 eventLength kind size =
     pick (eqb kind 1) (eqb size 9) (pick (eqb kind 2) (leb size 4096) (eqb kind 3 && eqb size 2))
 
 unfoldable pub lengthAllowed : Bool → ℕ → ℕ → Bool
-lengthAllowed first kind size = pick first (eqb kind 0 && eqb size 12) (eventLength kind size)
+lengthAllowed first kind size = pick first (eqb kind 0 && settingsLength size) (eventLength kind size)
 
 -- "primitive, address, code"; a frame; a clock step
 unfoldable pub eventAt : List ℕ → ℕ → Event

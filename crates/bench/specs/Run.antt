@@ -21,7 +21,7 @@ use Rattle.bench.specs.declared.run.Run.{Run}
 unfoldable pub startOf : Bool → Run
 startOf trace =
     record {
-      settings = record { own = 0; authentication = 0; association = 0; role = 0; rsna = 0 };
+      settings = record { own = 0; authentication = 0; association = 0; role = 0; rsna = 0; edition = 0; protection = 0 };
       table = replicate 32 freeOf;
       number = 0;
       at = 0;
@@ -37,14 +37,14 @@ startOf trace =
 unfoldable pub behindOf : ℕ → ℕ → ℕ → ℕ
 behindOf at n have = pick (leb (at + n) have) (at + n) have
 
--- The settings record was taken: its 17 octets are passed, the rest stays.
-unfoldable pub begunOf : Run → Settings → Run
-begunOf r s =
+-- The settings record was taken: its `size` octets are passed, the rest stays.
+unfoldable pub begunOf : Run → Settings → ℕ → Run
+begunOf r s size =
     record {
       settings = s;
       table = r .table;
       number = r .number;
-      at = behindOf (r .at) 17 (r .have);
+      at = behindOf (r .at) size (r .have);
       have = r .have;
       out = r .out;
       first = false;

@@ -43,7 +43,7 @@ pub data Short (xs o : List ℕ) (r : Run) (ys k : List ℕ) (q : Run) : Type 0 
 abbrev pub Turned : Taken → List ℕ → List ℕ → Run → List ℕ → List ℕ → Run → Type 0
 Turned Cut xs o r ys k q = Short xs o r ys k q
 Turned Fault xs o r ys k q = (q ≡ flushedOf r true) × (k ≡ stoppedIn r o) × (ys ≡ xs)
-Turned (First s) xs o r ys k q = (q ≡ begunOf r s) × (k ≡ o) × (ys ≡ xs)
+Turned (First s) xs o r ys k q = (q ≡ begunOf r s (sizeOf (aheadOf (r .at) (r .have) xs))) × (k ≡ o) × (ys ≡ xs)
 Turned (Next e) xs o r ys k q =
     (q ≡ eventOf r e (bodyOf (aheadOf (r .at) (r .have) xs)) (sizeOf (aheadOf (r .at) (r .have) xs)) o) ×
     (k ≡ eventOutput r e (bodyOf (aheadOf (r .at) (r .have) xs)) o .octets) ×

@@ -4,6 +4,7 @@ use octets::field::octet_at;
 use octets::field::u16_at;
 use peer::settings::Settings;
 use table::host::settings::settings_in;
+use table::host::settings::settings_length;
 use table::rules::event::Event;
 ghost use mathlib.Core.Path.{_≡_};
 ghost use Prim.Native.Nat.{_+_};
@@ -35,7 +36,11 @@ fn length_allowed(first: bool, kind: u8, size: u16) -> bool
     ensures { λ r. ⌜ r ≡ lengthAllowed first kind size ⌝ }
 {
     if first {
-        if kind == 0 { size == 12 } else { false }
+        if kind == 0 {
+            settings_length(size as usize)
+        } else {
+            false
+        }
     } else {
         match kind {
             1 => size == 9,

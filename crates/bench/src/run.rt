@@ -60,6 +60,8 @@ impl Run {
                 association: 0,
                 role: 0,
                 rsna: 0,
+                edition: 0,
+                protection: 0,
             },
             table: [vacant(); 32],
             number: 0,
@@ -150,14 +152,14 @@ fn cut(input: &mut [u8], output: &mut [u8], r: Run) -> Run
     }
 }
 
-// The settings record was taken.
-fn begin(r: Run, s: Settings) -> Run
-    ensures { λ q. ⌜ q ≡ begunOf r s ⌝ }
+// The settings record was taken; it has `size` octets.
+fn begin(r: Run, s: Settings, size: usize) -> Run
+    ensures { λ q. ⌜ q ≡ begunOf r s size ⌝ }
 {
     let mut next = r;
     next.settings = s;
     next.first = false;
-    next.at = behind(r.at, 17, r.have);
+    next.at = behind(r.at, size, r.have);
     next
 }
 
@@ -218,7 +220,7 @@ pub fn turn(input: &mut [u8], output: &mut [u8], r: Run) -> Run
     match t {
         Taken::Fault => stop(output, r),
         Taken::Cut => cut(input, output, r),
-        Taken::First(s) => begin(r, s),
+        Taken::First(s) => begin(r, s, record_length(&input[at..have])),
         Taken::Next(e) => {
             let s = &input[at..have];
             event(output, r, e, body(s), record_length(s))

@@ -10,7 +10,7 @@ use Rattle.octets.proofs.Branch.{by-bool}
 use Rattle.octets.specs.declared.heard.Kind.the-variants.{Association, Authentication, Reassociation}
 use Rattle.octets.specs.declared.heard.Kind.{Kind}
 use Rattle.peer.specs.Authentication.{answeredMove}
-use Rattle.peer.specs.Ask.{answerOf, askOf, associateOf, awaitedOf, deauthenticateOf, declinedOf, disassociateOf, failedOf, reassociateOf, reportOf, reportedMove, respondOf, secureOf, startedOf, timeoutOf}
+use Rattle.peer.specs.Ask.{answerOf, askOf, associateOf, awaitedOf, deauthenticateOf, declinedMove, declinedOf, disassociateOf, failedOf, reassociateOf, reportOf, reportedMove, respondOf, secureOf, startedOf, timeoutOf}
 use Rattle.peer.specs.Fit.{askedFits, awaitingFits, sentFits, stands}
 use Rattle.peer.specs.Moves.{movedOf}
 use Rattle.peer.specs.Record.{askedOf, isAssociating, kindOf, underWay}
@@ -99,7 +99,7 @@ module _ (s : Settings) (p : Record) (f : Fits s p) (o : Others) (fit : settings
   unfolding respondOf awaitedOf declinedOf
   respond aid k status r fits = by-bool (eqb status 0)
       (λ e. rw e (begun f (Awaiting k) 0 _ _ _ fits (λ b c j. clash r b)))
-      (λ e. rw e (ended f move.Drop (p .hold) _ _ _ (f .held) (λ a. refl)))
+      (λ e. rw e (ended f (declinedMove s) (p .hold) _ _ _ (f .held) (λ a. clash r a)))
 
   awaits :
       (k : Kind) (n : ℕ) → eqb (s .role) ap ≡ true → isAssociating k ≡ true → leb 2 n ≡ true → eqb (askedOf (p .exchange)) n ≡ true

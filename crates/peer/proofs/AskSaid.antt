@@ -73,7 +73,7 @@ module _ (s : Settings) (fit : settingsFit s ≡ true) (p : Record) (valid : val
 
 -- An example: a station, own address 0a, RSNA required, is associated with the AP 0c and asks 0e, where it is authenticated: primitive 5.
 abbrev roaming : Settings
-roaming = record { role = 2; own = 0x0a; rsna = 1; authentication = 10; association = 10 }
+roaming = record { role = 2; own = 0x0a; rsna = 1; authentication = 10; association = 10; edition = 1; protection = 0 }
 
 abbrev nearer : Record
 nearer = record { address = 0x0e; state = 2; exchange = None; left = 0; hold = 0 }

@@ -38,6 +38,7 @@ use Rattle.peer.specs.declared.settings.Settings.{Settings}
 use Rattle.peer.specs.declared.turn.Turn.{Turn}
 use Rattle.peer.specs.Fit.{askedFits, awaitingFits, holdFits, recordFits, stands}
 use Rattle.peer.proofs.Fits.{Fits, asked-stands, clash, fits-of, sent-station, wrong}
+use Rattle.peer.proofs.Keeps.{declined-no-higher}
 
 -- ---- "Raising the AP's state at the response, before its acknowledgement."
 
@@ -116,7 +117,7 @@ raised-by s p f aid o q code allowed mismatch =
     responded : (k : Kind) (n : ℕ) → leb 2 n ≡ true → eqb (askedOf (p .exchange)) n ≡ true → Only p q code (respondOf s aid p k code)
     responded k n two e =
         let high : 2 ≤ p .state = leb-true 2 (p .state) (asked-stands (p .exchange) n (s .role) (p .state) (p .left) (f .suits) two e) in
-        pick-both (Only p q code) (eqb code 0) kept (λ l. absurd (omega arith))
+        pick-both (Only p q code) (eqb code 0) kept (λ l. absurd (omega (arith, declined-no-higher s (p .state) high)))
 
     keyed : q ≡ 9 → Only p q code (secureOf s p)
     keyed z = by-bool (eqb (p .state) 3) (λ three. λ l. secured z (eqb-true (p .state) 3 three)) (λ three. rw three kept)
@@ -224,7 +225,7 @@ module _ (s : Settings) (p : Record) where
 -- is awaited, and acknowledged.
 
 ours : ℕ → Settings
-ours role = record { own = 2; authentication = 100; association = 100; role = role; rsna = 0 }
+ours role = record { own = 2; authentication = 100; association = 100; role = role; rsna = 0; edition = 1; protection = 0 }
 
 peer : ℕ → Record
 peer state = record { address = 4; state = state; exchange = None; left = 0; hold = 0 }

@@ -1,11 +1,11 @@
 -- What one record must be, as facts; and a record that comes of another and keeps them.
 -- Assumes nothing.
-use Prim.Native.Nat.{ℕ, _≤_}
+use Prim.Native.Nat.{ℕ, _≤_, _<_}
 use mathlib.Core.Path.{_≡_, refl, sym, _∙_}
 use mathlib.Core.Bool.{Bool, true, false, not, _&&_, _||_}
 use native.Mathlib.Omega.{arith}
 use lib.Dec.{eqb, leb}
-use borrow.Author.Tests.{le-leb, leb-true, eqb-true}
+use borrow.Author.Tests.{le-leb, leb-false, leb-true, lt-leb, eqb-true}
 use Rattle.octets.proofs.Branch.{by-bool}
 use Rattle.octets.specs.Address.{validOf}
 use Rattle.octets.specs.declared.heard.Kind.the-variants.{Association, Authentication, Reassociation}
@@ -89,6 +89,7 @@ moved-low rsna state move.Keep h = h
 moved-low rsna state move.Authenticate h = by-bool (eqb state 1) (λ e. rw e (omega arith)) (λ e. rw e h)
 moved-low rsna state move.Deauthenticate h = omega arith
 moved-low rsna state move.Drop h = omega arith
+moved-low rsna state move.Lower h = by-bool (eqb state 4) (λ e. rw e (omega arith)) (λ e. rw e h)
 moved-low rsna state move.Join h = by-bool (eqb rsna 1) (λ e. rw e (omega arith)) (λ e. rw e (omega arith))
 moved-low rsna state move.Secure h = by-bool (eqb state 3) (λ e. rw e (omega arith)) (λ e. rw e h)
 
@@ -97,6 +98,7 @@ moved-high rsna state move.Keep h = h
 moved-high rsna state move.Authenticate h = by-bool (eqb state 1) (λ e. rw e (omega arith)) (λ e. rw e h)
 moved-high rsna state move.Deauthenticate h = omega arith
 moved-high rsna state move.Drop h = omega arith
+moved-high rsna state move.Lower h = by-bool (eqb state 4) (λ e. rw e (omega arith)) (λ e. rw e h)
 moved-high rsna state move.Join h = by-bool (eqb rsna 1) (λ e. rw e (omega arith)) (λ e. rw e (omega arith))
 moved-high rsna state move.Secure h = by-bool (eqb state 3) (λ e. rw e (omega arith)) (λ e. rw e h)
 
@@ -106,6 +108,7 @@ calm move.Keep = true
 calm move.Authenticate = true
 calm move.Deauthenticate = true
 calm move.Drop = true
+calm move.Lower = true
 calm move.Join = false
 calm move.Secure = true
 
@@ -114,9 +117,15 @@ calm-moved rsna state move.Keep c h = h
 calm-moved rsna state move.Authenticate c h = by-bool (eqb state 1) (λ e. wrong (rw e at h)) (λ e. rw e at h)
 calm-moved rsna state move.Deauthenticate c h = wrong h
 calm-moved rsna state move.Drop c h = wrong h
+calm-moved rsna state move.Lower c h = by-bool (eqb state 4) (λ e. rw (eqb-true state 4 e)) (λ e. rw e at h)
 calm-moved rsna state move.Join c h = wrong c
 calm-moved rsna state move.Secure c h =
     by-bool (eqb state 3) (λ e. rw (eqb-true state 3 e)) (λ e. rw e at h)
+
+pub calm-low : (rsna state : ℕ) (m : Move) → calm m ≡ true → state < 3 → movedOf rsna state m < 3
+calm-low rsna state m c l = by-bool (leb 3 (movedOf rsna state m))
+    (λ h. clash (calm-moved rsna state m c h) (lt-leb 3 state l))
+    (λ h. leb-false 3 (movedOf rsna state m) h)
 
 -- ---- the exchanges
 

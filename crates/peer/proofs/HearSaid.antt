@@ -188,7 +188,7 @@ module _ (s : Settings) (fit : settingsFit s ≡ true) (p : Record) (valid : val
 
 -- An example: an AP, own address 0a, hears a reassociation request of a stranger, 0e.
 abbrev home : Settings
-home = record { role = 1; own = 0x0a; rsna = 0; authentication = 10; association = 10 }
+home = record { role = 1; own = 0x0a; rsna = 0; authentication = 10; association = 10; edition = 1; protection = 0 }
 
 abbrev asking : List ℕ
 asking =

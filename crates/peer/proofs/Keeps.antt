@@ -7,10 +7,11 @@ use mathlib.Core.Bool.{Bool, true, false, not, _||_}
 use native.Mathlib.Omega.{arith}
 use lib.Dec.{eqb, leb, ltb}
 use borrow.Author.Tests.{le-leb, lt-leb, eqb-true, ltb-false, ltb-true}
-use Rattle.octets.proofs.Branch.{by-bool}
+use Rattle.octets.proofs.Branch.{by-bool, pick-both, pick-by}
 use Rattle.octets.specs.Address.{validOf}
 use Rattle.octets.specs.declared.heard.Kind.the-variants.{Association, Authentication, Reassociation}
 use Rattle.octets.specs.declared.heard.Kind.{Kind}
+use Rattle.peer.specs.Ask.{declinedMove}
 use Rattle.peer.specs.Association.{partedOf}
 use Rattle.peer.specs.Authentication.{answeredMove}
 use Rattle.peer.specs.Fit.{exchangeFits, holdFits, placeFits, recordFits, stands}
@@ -47,6 +48,20 @@ stood-any state = refl
 pub answered-calm : (status : ℕ) → calm (answeredMove status) ≡ true
 unfolding answeredMove
 answered-calm status = by-bool (eqb status 0) (λ e. rw e) (λ e. rw e)
+
+-- nor does a rejection of ours, in either edition
+pub declined-calm : (s : Settings) → calm (declinedMove s) ≡ true
+unfolding declinedMove
+declined-calm s =
+    pick-both (λ m. calm m ≡ true) (eqb (s .edition) 1) refl (pick-both (λ m. calm m ≡ true) (eqb (s .protection) 1) refl refl)
+
+-- it lowers a state or leaves it, in State 2 and above
+pub declined-no-higher : (s : Settings) (state : ℕ) → 2 ≤ state → movedOf (s .rsna) state (declinedMove s) ≤ state
+unfolding declinedMove
+declined-no-higher s state two =
+    pick-both (λ m. movedOf (s .rsna) state m ≤ state) (eqb (s .edition) 1) two
+    (pick-both (λ m. movedOf (s .rsna) state m ≤ state) (eqb (s .protection) 1) (omega arith)
+    (pick-by (λ (n : ℕ). n ≤ state) (eqb state 4) (λ e. let z = eqb-true state 4 e in omega arith) (λ e. omega arith)))
 
 -- turns of a record that fits: it stays; its exchange ends; one begins
 module _ {s : Settings} {busy : Bool} {p : Record} (f : Fits s p) where

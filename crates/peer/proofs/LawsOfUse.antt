@@ -25,7 +25,7 @@ use Rattle.peer.specs.Authentication.{requestedOf, authenticationAtAp, a
 use Rattle.peer.specs.Farewell.{deauthenticationHeard, disassociationHeard}
 use Rattle.peer.specs.Association.{requestHeard, acceptedOf, rejectedOf, responseHeard}
 use Rattle.peer.specs.Hear.{isExchange, actOf, groupHeard, hearOf}
-use Rattle.peer.specs.Ask.{startedOf, answerOf, deauthenticateOf, failedOf, associateOf, reassociateOf, disassociateOf, awaitedOf, declinedOf, respondOf, secureOf, reportedMove, reportOf, askOf}
+use Rattle.peer.specs.Ask.{startedOf, answerOf, deauthenticateOf, failedOf, associateOf, reassociateOf, disassociateOf, awaitedOf, declinedMove, declinedOf, respondOf, secureOf, reportedMove, reportOf, askOf}
 use Rattle.peer.specs.Tick.{timedOf, freedOf, tickOf}
 use Rattle.peer.specs.declared.settings.Settings.{Settings}
 use Rattle.peer.specs.declared.record.Record.{Record}
@@ -33,6 +33,8 @@ use Rattle.peer.specs.declared.refuse.Others.{Others}
 use Rattle.peer.specs.declared.moves.Move.the-variants as move
 use Rattle.peer.specs.declared.reply.Reply.the-variants.{Silent}
 use Rattle.peer.specs.declared.turn.Turn.{Turn}
+use Rattle.peer.proofs.Fits.{calm-low}
+use Rattle.peer.proofs.Keeps.{answered-calm, declined-calm}
 
 -- ---- Holds
 
@@ -128,16 +130,10 @@ joins p (heard.Request k current) = false
 joins p (heard.Response k status aid c) = isSent k (p .exchange) && (eqb status 0 && not (eqb aid 0 || ltb lastAid aid))
 
 answered-low : (s : Settings) (p : Record) (status : ℕ) → p .state < 3 → movedOf (s .rsna) (p .state) (answeredMove status) < 3
-unfolding answeredMove
-answered-low s p status l = authenticated (eqb status 0)
-  where
-    two : (b : Bool) → pick b 2 (p .state) < 3
-    two true = omega arith
-    two false = l
+answered-low s p status l = calm-low (s .rsna) (p .state) (answeredMove status) (answered-calm status) l
 
-    authenticated : (b : Bool) → movedOf (s .rsna) (p .state) (pick b move.Authenticate move.Keep) < 3
-    authenticated true = two (eqb (p .state) 1)
-    authenticated false = l
+declined-low : (s : Settings) (p : Record) → p .state < 3 → movedOf (s .rsna) (p .state) (declinedMove s) < 3
+declined-low s p l = calm-low (s .rsna) (p .state) (declinedMove s) (declined-calm s) l
 
 act-low : (s : Settings) (p : Record) (h : Heard) → p .state < 3 → joins p h ≡ false → Low (actOf s p h)
 unfolding Low stillOf repliedOf turnOf authenticationHeard authenticationAtAp authenticationAtStation requestedOf begunOf endedOf changedOf deauthenticationHeard disassociationHeard requestHeard responseHeard acceptedOf rejectedOf soleOf
@@ -178,8 +174,8 @@ rises-asked s aid p o q code l other one ten =
     pick-by Low (eqb q 4) (λ e. pick-both Low (eqb (p .state) 1) l l) (λ f4.
     pick-by Low (eqb q 5) (λ e. pick-both Low (eqb (o .associated) 0 || eqb (p .state) 1) l l) (λ f5.
     pick-by Low (eqb q 6) (λ e. pick-both Low (ltb (p .state) 3) l (omega arith)) (λ f6.
-    pick-by Low (eqb q 7) (λ e. pick-both Low (eqb code 0) l (omega arith)) (λ f7.
-    pick-by Low (eqb q 8) (λ e. pick-both Low (eqb code 0) l (omega arith)) (λ f8.
+    pick-by Low (eqb q 7) (λ e. pick-both Low (eqb code 0) l (declined-low s p l)) (λ f7.
+    pick-by Low (eqb q 8) (λ e. pick-both Low (eqb code 0) l (declined-low s p l)) (λ f8.
     pick-by Low (eqb q 9) (λ e. secured (eqb (p .state) 3) refl) (λ f9.
     reported (eqb code 1) refl (last f1 f2 f3 f4 f5 f6 f7 f8 f9))))))))))
   where

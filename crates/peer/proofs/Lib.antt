@@ -3,6 +3,7 @@ pub mod Keeps
 pub mod HearKeeps
 pub mod AskKeeps
 pub mod TickKeeps
+pub mod Editions
 pub mod LawsOfUse
 pub mod ErrorsThatLookRight
 pub mod Sent

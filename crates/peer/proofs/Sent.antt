@@ -45,11 +45,14 @@ module _ (s : Settings) (fit : settingsFit s ≡ true) where
   own-valid : validOf (s .own) ≡ true
   unfolding settingsFit
   own-valid =
-      and-right (timeFits (s .association)) _
+      and-right (leb (s .edition) 2) _
+      (and-right (not (eqb (s .edition) 0)) _
+      (and-right (leb (s .protection) 1) _
+      (and-right (timeFits (s .association)) _
       (and-right (timeFits (s .authentication)) _
       (and-right (leb (s .rsna) 1) _
       (and-right (leb (s .role) 2) _
-      (and-right (not (eqb (s .role) 0)) _ fit))))
+      (and-right (not (eqb (s .role) 0)) _ fit)))))))
 
   third : (peer : ℕ) → apAddress s peer ≡ pick (eqb (s .role) station) peer (s .own)
   unfolding apAddress

@@ -68,10 +68,15 @@ disassociateOf s p reason =
 unfoldable pub awaitedOf : Settings → Record → Kind → ℕ → Turn
 awaitedOf s p k aid = turnOf s p (begunOf p (Awaiting k) 0) none nothingTold (responseTo s (p .address) k 0 aid)
 
--- "else frame AID 0, State 2 (001), exchange ends"
+-- Where a rejection of ours leads. 02, K2: "Document 001 sends the peer to State 2 when an AP answers anything but success." (edition 1, whatever
+-- the flag) "Document 004 leaves the state as it is where management frame protection is in use, and otherwise moves State 4 to 3 only." (edition 2)
+unfoldable pub declinedMove : Settings → Move
+declinedMove s = pick (eqb (s .edition) 1) move.Drop (pick (eqb (s .protection) 1) move.Keep move.Lower)
+
+-- "else frame AID 0, .. exchange ends"; the state as the edition has it
 unfoldable pub declinedOf : Settings → Record → Kind → ℕ → Turn
 declinedOf s p k status =
-    turnOf s p (endedOf s p move.Drop (p .hold)) none nothingTold (responseTo s (p .address) k status 0)
+    turnOf s p (endedOf s p (declinedMove s) (p .hold)) none nothingTold (responseTo s (p .address) k status 0)
 
 unfoldable pub respondOf : Settings → ℕ → Record → Kind → ℕ → Turn
 respondOf s aid p k status = pick (eqb status 0) (awaitedOf s p k aid) (declinedOf s p k status)

@@ -4,7 +4,7 @@ use Prim.Native.Nat.{ℕ}
 use lib.Dec.{eqb, ltb}
 use Rattle.octets.specs.Pick.{pick}
 use Rattle.peer.specs.Settings.{ap}
-use Rattle.peer.specs.declared.moves.Move.the-variants.{Authenticate, Deauthenticate, Drop, Join, Keep, Secure}
+use Rattle.peer.specs.declared.moves.Move.the-variants.{Authenticate, Deauthenticate, Drop, Join, Keep, Lower, Secure}
 use Rattle.peer.specs.declared.moves.Move.{Move}
 
 -- The state after each move. Nothing else changes a state but the freeing of a place.
@@ -16,6 +16,8 @@ movedOf rsna state Authenticate = pick (eqb state 1) 2 state
 movedOf rsna state Deauthenticate = 1
 -- "Disassociation ..: State 2"; "Other status: State 2"; "any other record in State 3 or 4 goes to State 2"; "the others set State 2"
 movedOf rsna state Drop = 2
+-- 02, K2: "moves State 4 to 3 only"
+movedOf rsna state Lower = pick (eqb state 4) 3 state
 -- "State 3 if RSNA required, else 4"
 movedOf rsna state Join = pick (eqb rsna 1) 3 4
 -- "State 3 to 4; State 4 kept"

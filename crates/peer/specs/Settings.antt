@@ -1,5 +1,6 @@
 -- 01, Settings, table, clock: "Settings: role (1 AP, 2 station), own address, whether RSNA is required (0 or 1), authentication and
--- association timeouts (1 to 65,535 TU)".
+-- association timeouts (1 to 65,535 TU)". 02, K2: "Settings gain an edition (1 or 2) and a protection flag":
+-- the edition names one of two rules for a rejected association, the flag says whether management frame protection is in use.
 -- Assumes nothing.
 use Prim.Native.Nat.{ℕ}
 use mathlib.Core.Bool.{Bool, _&&_, not}
@@ -17,11 +18,14 @@ station = 2
 unfoldable pub timeFits : ℕ → Bool
 timeFits n = not (eqb n 0) && leb n 65535
 
--- "settings in range and own address valid"
+-- "settings in range and own address valid"; 02, K2: "an edition (1 or 2) and a protection flag", "another edition or flag value is 2"
 unfoldable pub settingsFit : Settings → Bool
 settingsFit s =
     not (eqb (s .role) 0) && (leb (s .role) 2
     && (leb (s .rsna) 1
     && (timeFits (s .authentication)
     && (timeFits (s .association)
-    && validOf (s .own)))))
+    && (leb (s .protection) 1
+    && (not (eqb (s .edition) 0)
+    && (leb (s .edition) 2
+    && validOf (s .own))))))))

@@ -20,7 +20,7 @@ use crate::turn::confirm;
 use crate::turn::ended;
 use octets::heard::Kind;
 ghost use mathlib.Core.Path.{_≡_};
-ghost use Rattle.peer.specs.Ask.{answerOf, askOf, associateOf, awaitedOf, deauthenticateOf, declinedOf, disassociateOf, failedOf, reassociateOf, reportOf, reportedMove, respondOf, secureOf, startedOf, timeoutOf};
+ghost use Rattle.peer.specs.Ask.{answerOf, askOf, associateOf, awaitedOf, deauthenticateOf, declinedMove, declinedOf, disassociateOf, failedOf, reassociateOf, reportOf, reportedMove, respondOf, secureOf, startedOf, timeoutOf};
 
 // The timeout of an exchange of a kind.
 fn timeout(s: Settings, k: Kind) -> u16
@@ -142,11 +142,24 @@ fn awaited(s: Settings, p: Record, k: Kind, aid: u16) -> Turn
     )
 }
 
+// Where a rejection of ours leads: the editions' two rules.
+fn declined_move(s: Settings) -> Move
+    ensures { λ r. ⌜ r ≡ declinedMove s ⌝ }
+{
+    if s.edition == 1 {
+        return Move::Drop;
+    }
+    if s.protection == 1 {
+        return Move::Keep;
+    }
+    Move::Lower
+}
+
 // 7 and 8, another status.
 fn declined(s: Settings, p: Record, k: Kind, status: u16) -> Turn
     ensures { λ r. ⌜ r ≡ declinedOf s p k status ⌝ }
 {
-    let q = ended(s, p, Move::Drop, p.hold);
+    let q = ended(s, p, declined_move(s), p.hold);
     Turn::of(
         s,
         p,

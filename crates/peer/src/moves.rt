@@ -13,6 +13,8 @@ pub enum Move {
     Deauthenticate,
     // A disassociation, a rejection, a (re)association timed out, or a move to another AP.
     Drop,
+    // A rejection of ours, by the second edition without protection.
+    Lower,
     // A (re)association succeeded.
     Join,
     // The keys are in place.
@@ -34,6 +36,13 @@ pub fn moved(rsna: u8, state: u8, m: Move) -> u8
         }
         Move::Deauthenticate => Record::STATE_1,
         Move::Drop => Record::STATE_2,
+        Move::Lower => {
+            if state == Record::STATE_4 {
+                Record::STATE_3
+            } else {
+                state // States 1 to 3 stay.
+            }
+        }
         Move::Join => {
             if rsna == 1 {
                 Record::STATE_3
@@ -66,10 +75,10 @@ pub fn ds(role: u8, before: u8, after: u8) -> u8
         return DS_NONE;
     }
     if before < Record::STATE_3 {
-        if after < Record::STATE_3 {
-            DS_NONE
-        } else {
+        if Record::STATE_3 <= after {
             DS_JOINED
+        } else {
+            DS_NONE
         }
     } else {
         if after < Record::STATE_3 {

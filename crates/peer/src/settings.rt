@@ -12,6 +12,10 @@ pub struct Settings {
     pub role: u8,
     // Whether RSNA is required, 0 or 1.
     pub rsna: u8,
+    // Which rule a rejected association follows: 1, document 001's; 2, document 004's.
+    pub edition: u8,
+    // Whether management frame protection is in use, 0 or 1.
+    pub protection: u8,
 }
 
 impl Settings {
@@ -36,6 +40,15 @@ impl Settings {
             return false;
         }
         if self.association == 0 {
+            return false;
+        }
+        if 1 < self.protection {
+            return false;
+        }
+        if self.edition == 0 {
+            return false;
+        }
+        if 2 < self.edition {
             return false;
         }
         let own = self.own;

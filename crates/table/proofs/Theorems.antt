@@ -10,6 +10,7 @@ pub mod Timeouts
 pub mod Well
 pub mod StepKeeps
 pub mod DiscardLeaves
+pub mod Editions
 pub mod PlacesKept
 pub mod SaidBack
 pub mod SaidExamples

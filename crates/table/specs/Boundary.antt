@@ -2,6 +2,7 @@
 -- refusal's number.
 -- Assumes nothing.
 use Prim.Native.Nat.{ℕ}
+use mathlib.Core.Bool.{Bool, _||_}
 use mathlib.Core.List.{List}
 use lib.Dec.{eqb, ltb}
 use lib.ListN.{length}
@@ -15,18 +16,28 @@ use Rattle.table.specs.declared.rules.event.Event.{Event}
 
 -- Out of range, so refusal 2: "settings or table not well formed".
 abbrev pub noSettings : Settings
-noSettings = record { own = 0; authentication = 0; association = 0; role = 0; rsna = 0 }
+noSettings = record { own = 0; authentication = 0; association = 0; role = 0; rsna = 0; edition = 0; protection = 0 }
 
--- 01, The bench program: "role, own address, RSNA 0/1, two timeouts, 12 octets." Of any other length: settings out of range.
+-- 01, The bench program: "role, own address, RSNA 0/1, two timeouts, 12 octets." 02, K2: "a bench settings record of 14 octets carries them
+-- last, and one of 12 means edition 1, no protection". Octets that are not there are 0, so only the edition has to be said.
+unfoldable pub settingsLength : ℕ → Bool
+settingsLength n = eqb n 12 || eqb n 14
+
+unfoldable pub editionIn : List ℕ → ℕ
+editionIn xs = pick (ltb (length xs) 14) 1 (field 1 12 xs)
+
+-- Of any other length: settings out of range.
 unfoldable pub settingsIn : List ℕ → Settings
 settingsIn xs =
-    pick (eqb (length xs) 12)
+    pick (settingsLength (length xs))
     (record {
       own = field 6 1 xs;
       authentication = field 2 8 xs;
       association = field 2 10 xs;
       role = field 1 0 xs;
       rsna = field 1 7 xs;
+      edition = editionIn xs;
+      protection = field 1 13 xs;
     })
     noSettings
 

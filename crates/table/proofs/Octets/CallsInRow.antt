@@ -23,7 +23,7 @@ use Rattle.octets.specs.declared.heard.Kind.the-variants.{Association, Authenti
 use Rattle.peer.specs.declared.record.Record.{Record}
 use Rattle.peer.specs.declared.settings.Settings.{Settings}
 use Rattle.table.specs.Answer.{refusalAnswer}
-use Rattle.table.specs.Boundary.{answerIn, crossedOf, settingsIn}
+use Rattle.table.specs.Boundary.{answerIn, crossedOf, editionIn, settingsIn, settingsLength}
 use Rattle.table.specs.Calls.{Call, Told, called, stepped, framed, InRow, CallsInRow, LeavesTable, CallSaid}
 use Rattle.table.specs.Exactly.{refusalsOf}
 use Rattle.table.specs.Fit.{wellFormed}
@@ -236,7 +236,7 @@ access-point : List ℕ
 access-point = 1 ∷ octets 6 us ++ 0 ∷ octets 2 100 ++ octets 2 100
 
 example-settings : settingsIn access-point ≡ asAp
-unfolding settingsIn octets access-point
+unfolding settingsIn settingsLength editionIn octets access-point
 example-settings = refl
 
 example-calls : List Call

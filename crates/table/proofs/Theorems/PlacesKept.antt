@@ -127,7 +127,7 @@ place-kept s t (event.Clock d) xs n c i z = wrong (sym c)
 
 -- For one: a peer in State 4 at place 0 of an access point, deauthenticated from our own side.
 abbrev ours : Settings
-ours = record { own = 2; authentication = 100; association = 100; role = 1; rsna = 0 }
+ours = record { own = 2; authentication = 100; association = 100; role = 1; rsna = 0; edition = 1; protection = 0 }
 
 abbrev peer : Record
 peer = record { address = 4; state = 4; exchange = None; left = 0; hold = 0 }

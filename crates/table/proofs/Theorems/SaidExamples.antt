@@ -53,7 +53,7 @@ use Rattle.table.proofs.Theorems.Well.{well-of}
 -- ---- two steps of an AP, own address 0a, with 0c associated and 0e at place 1, whose association is asked
 
 abbrev home : Settings
-home = record { role = 1; own = 0x0a; rsna = 0; authentication = 10; association = 10 }
+home = record { role = 1; own = 0x0a; rsna = 0; authentication = 10; association = 10; edition = 1; protection = 0 }
 
 abbrev two : List Record
 two =

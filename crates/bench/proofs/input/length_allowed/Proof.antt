@@ -2,12 +2,16 @@
 -- Assumes nothing.
 use Rattle.bench.specs.Input.{lengthAllowed}
 use Rattle.octets.proofs.Branch.{tests}
+use borrow.Author.Needs.{needs}
 use Rattle.bench.proofs.input.length_allowed.Statement.{statement}
 use Rattle.bench.proofs.input.length_allowed.Tie as tie
 
+settings-length-requires : tie.Need-settings-length-requires
+settings-length-requires c κs = search needs
+
 returns : tie.Need-returns
 unfolding lengthAllowed
-returns c = search (tests, c .before .if1 .taken)
+returns c = search (tests, c .before .before .if1 .taken, ← c .settings-length .ensures)
 
 returns-2 : tie.Need-returns-2
 unfolding lengthAllowed
@@ -31,4 +35,4 @@ returns-6 c = search (tests, c .before .if1 .left)
 
 pub length-allowed-spec : {M : Type 1} → statement M
 length-allowed-spec =
-    tie.close (tie.spec returns returns-2 returns-3 returns-4 returns-5 returns-6)
+    tie.close (tie.spec settings-length-requires returns returns-2 returns-3 returns-4 returns-5 returns-6)

@@ -51,6 +51,15 @@ cut-requires c κs = search needs
 enum-known-t : tie.Need-enum-known-t
 enum-known-t c = search needs
 
+part-record-length-start : tie.Need-part-record-length-start
+part-record-length-start c = search needs
+
+part-record-length-end : tie.Need-part-record-length-end
+part-record-length-end c = search needs
+
+record-length-requires : tie.Need-record-length-requires
+record-length-requires c κs = search needs
+
 begin-requires : tie.Need-begin-requires
 begin-requires c κs = search needs
 
@@ -66,8 +75,8 @@ part-s-end c = search needs
 body-requires : tie.Need-body-requires
 body-requires c κs = search needs
 
-record-length-requires : tie.Need-record-length-requires
-record-length-requires c κs = search needs
+record-length-requires-2 : tie.Need-record-length-requires-2
+record-length-requires-2 c κs = search needs
 
 event-requires : tie.Need-event-requires
 event-requires c κs = search needs
@@ -94,7 +103,7 @@ same-length-7 : tie.Need-same-length-7
 same-length-7 c = search needs
 
 returns-5 : tie.Need-returns-5
-returns-5 c = λ h g. rw (← c .before .before .before .before .take .ensures, c .before .before .t .given .1) (c .begin .ensures, refl, refl)
+returns-5 c = λ h g. rw (← c .before .before .before .before .before .before .before .take .ensures, c .before .before .before .before .before .t .given .1, ← c .before .record-length .ensures) (c .begin .ensures, refl, refl)
 
 same-length-8 : tie.Need-same-length-8
 same-length-8 c = search needs
@@ -103,7 +112,7 @@ same-length-9 : tie.Need-same-length-9
 same-length-9 c = search needs
 
 returns-6 : tie.Need-returns-6
-returns-6 c = λ h g. rw (← c .before .before .before .before .before .before .before .before .before .before .before .take .ensures, c .before .before .before .before .before .before .before .before .before .t2 .given .1, ← c .before .before .before .before .body .ensures, ← c .before .before .before .record-length .ensures) (c .before .before .event .ensures .0, c .before .before .event .ensures .1, refl)
+returns-6 c = λ h g. rw (← c .before .before .before .before .before .before .before .before .before .before .before .take .ensures, c .before .before .before .before .before .before .before .before .before .t2 .given .1, ← c .before .before .before .before .body .ensures, ← c .before .before .before .record-length2 .ensures) (c .before .before .event .ensures .0, c .before .before .event .ensures .1, refl)
 
 pub turn-spec : {M : Type 1} → statement M
 turn-spec =
@@ -123,12 +132,15 @@ turn-spec =
     enum-told-2
     cut-requires
     enum-known-t
+    part-record-length-start
+    part-record-length-end
+    record-length-requires
     begin-requires
     enum-known-t-2
     part-s-start
     part-s-end
     body-requires
-    record-length-requires
+    record-length-requires-2
     event-requires
     same-length-3
     same-length-4

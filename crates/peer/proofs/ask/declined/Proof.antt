@@ -6,6 +6,9 @@ use borrow.Author.Needs.{needs}
 use Rattle.peer.proofs.ask.declined.Statement.{statement}
 use Rattle.peer.proofs.ask.declined.Tie as tie
 
+declined-move-requires : tie.Need-declined-move-requires
+declined-move-requires c κs = search needs
+
 ended-requires : tie.Need-ended-requires
 ended-requires c κs = search needs
 
@@ -20,8 +23,8 @@ of-requires c κs = search needs
 
 returns : tie.Need-returns
 unfolding declinedOf
-returns c = search (tests, ← c .of .ensures, ← c .before .response .ensures, ← c .before .before .nothing .ensures, ← c .before .before .before .ended .ensures)
+returns c = search (tests, ← c .of .ensures, ← c .before .response .ensures, ← c .before .before .nothing .ensures, ← c .before .before .before .ended .ensures, ← c .before .before .before .before .declined-move .ensures)
 
 pub declined-spec : {M : Type 1} → statement M
 declined-spec =
-    tie.close (tie.spec ended-requires nothing-requires response-requires of-requires returns)
+    tie.close (tie.spec declined-move-requires ended-requires nothing-requires response-requires of-requires returns)

@@ -23,6 +23,9 @@ enum-told-5 c = search needs
 enum-told-6 : tie.Need-enum-told-6
 enum-told-6 c = search needs
 
+enum-told-7 : tie.Need-enum-told-7
+enum-told-7 c = search needs
+
 returns : tie.Need-returns
 returns c = search needs
 
@@ -50,6 +53,12 @@ returns-8 c = search (tests, c .before .enum-told6 .given .1)
 returns-9 : tie.Need-returns-9
 returns-9 c = search (tests, c .before .enum-told6 .given .1)
 
+returns-10 : tie.Need-returns-10
+returns-10 c = search (tests, c .before .enum-told7 .given .1)
+
+returns-11 : tie.Need-returns-11
+returns-11 c = search (tests, c .before .enum-told7 .given .1)
+
 pub moved-spec : {M : Type 1} → statement M
 moved-spec =
     tie.close
@@ -60,6 +69,7 @@ moved-spec =
     enum-told-4
     enum-told-5
     enum-told-6
+    enum-told-7
     returns
     returns-2
     returns-3
@@ -68,4 +78,6 @@ moved-spec =
     returns-6
     returns-7
     returns-8
-    returns-9)
+    returns-9
+    returns-10
+    returns-11)

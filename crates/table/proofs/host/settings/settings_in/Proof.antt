@@ -2,13 +2,15 @@
 -- Assumes nothing.
 use Rattle.table.specs.Boundary.{settingsIn}
 use borrow.Author.Needs.{needs}
-use borrow.Author.Tests.{eq-eqb, ne-eqb}
 use Rattle.table.proofs.host.settings.settings_in.Statement.{statement}
 use Rattle.table.proofs.host.settings.settings_in.Tie as tie
 
+settings-length-requires : tie.Need-settings-length-requires
+settings-length-requires c κs = search needs
+
 returns : tie.Need-returns
 unfolding settingsIn
-returns c = rw (ne-eqb _ 12 (c .if1 .taken))
+returns c = rw (← c .before .settings-length .ensures, c .if1 .left)
 
 address-at-requires : tie.Need-address-at-requires
 address-at-requires c κs = search needs
@@ -25,18 +27,27 @@ octet-at-requires c κs = search needs
 octet-at-requires-2 : tie.Need-octet-at-requires-2
 octet-at-requires-2 c κs = search needs
 
+edition-in-requires : tie.Need-edition-in-requires
+edition-in-requires c κs = search needs
+
+octet-at-requires-3 : tie.Need-octet-at-requires-3
+octet-at-requires-3 c κs = search needs
+
 returns-2 : tie.Need-returns-2
 unfolding settingsIn
-returns-2 c = rw (eq-eqb _ 12 (c .before .before .before .before .before .if1 .left), ← c .before .before .before .before .address-at .ensures, ← c .before .before .before .u16-at .ensures, ← c .before .before .u16-at2 .ensures, ← c .before .octet-at .ensures, ← c .octet-at2 .ensures)
+returns-2 c = rw (← c .before .before .before .before .before .before .before .before .settings-length .ensures, c .before .before .before .before .before .before .before .if1 .taken, ← c .before .before .before .before .before .before .address-at .ensures, ← c .before .before .before .before .before .u16-at .ensures, ← c .before .before .before .before .u16-at2 .ensures, ← c .before .before .before .octet-at .ensures, ← c .before .before .octet-at2 .ensures, ← c .before .edition-in .ensures, ← c .octet-at3 .ensures)
 
 pub settings-in-spec : {M : Type 1} → statement M
 settings-in-spec =
     tie.close
     (tie.spec
+    settings-length-requires
     returns
     address-at-requires
     u16-at-requires
     u16-at-requires-2
     octet-at-requires
     octet-at-requires-2
+    edition-in-requires
+    octet-at-requires-3
     returns-2)

@@ -1,0 +1,84 @@
+"""Tests of what the words of a scenario lay out: frames, settings and primitives, against their octets."""
+
+from tools import bench_input as bench
+from tools.scenario import primitives, read
+
+OWN, PEER, OTHER = "02:00:00:00:00:01", "02:00:00:00:00:0a", "06:01:02:03:04:05"
+# The primitives by number, each with the name of its code.
+PRIMITIVES = (("authenticate", "code"), ("respond-authenticate", "status"),
+              ("deauthenticate", "reason"), ("associate", "code"), ("reassociate", "code"),
+              ("disassociate", "reason"), ("respond-associate", "status"),
+              ("respond-reassociate", "status"), ("set-protection", "code"),
+              ("report", "acknowledged"))
+
+
+def event(line, first=f"ap own={OWN}"):
+    """The one event of a line."""
+    _, lines = read.read(f"{first}\n{line}\n", "test")
+    return lines[1].events[0]
+
+
+def frames_as_laid_out():
+    """The usual frames, against the layouts that the other tests use."""
+    pairs = [
+        ("auth-request", bench.authentication(OWN, PEER)),
+        ("assoc-request", bench.association_request(OWN, PEER)),
+        (f"reassoc-request current-ap={OTHER}", bench.reassociation_request(OWN, PEER, OTHER)),
+        ("deauth", bench.deauthentication(OWN, PEER)),
+        ("disassoc", bench.disassociation(OWN, PEER)),
+        ("data", bench.data(OWN, PEER)),
+        ("qos-data", bench.data(OWN, PEER, b"\0\0", subtype=8)),
+        ("rts", bench.control(bench.RTS, OWN, PEER)),
+        ("action", bench.action(OWN, PEER)),
+        ("action category=5 body=00", bench.action(OWN, PEER, b"\5\0")),
+        ("action-no-ack category=4", bench.action(OWN, PEER, b"\4", bench.ACTION_NO_ACK)),
+        ("public-action", bench.action(OWN, PEER, b"\4")),
+        ("public-action body=0a01", bench.action(OWN, PEER, b"\4\x0a\1")),
+        ("public-action flags=0x40", bench.action(OWN, PEER, b"\4", flags=bench.PROTECTED)),
+        ("public-action length=24", bench.action(OWN, PEER)),
+        ("auth-request length=29", bench.authentication(OWN, PEER)[:29]),
+    ]
+    elements = bench.timeout_interval(5) + b"\xdd\0"
+    response = bench.association_response(OWN, PEER, 17, 0, elements=elements)
+    at_station = event(f"frame assoc-response from={PEER} status=17 comeback=5 elements=dd00",
+                       f"station own={OWN}")
+    faults = [] if at_station.frame == response else ["assoc-response at a station"]
+    rsna = event(f"frame assoc-request from={PEER}", f"ap own={OWN} rsna=1")
+    if rsna.frame != bench.association_request(OWN, PEER, capability=0x0011):
+        faults.append("assoc-request where RSNA is required")
+    return faults + [f"frame {words}" for words, octets in pairs
+                     if event(f"frame {words} from={PEER}").frame != octets]
+
+
+def settings_as_laid_out():
+    """Each word of the settings in its place; the record has 14 octets where edition or protection
+    is given, else 12. A second settings line begins a second bench input."""
+    pairs = [("", bench.settings(1, OWN)), ("rsna=1", bench.settings(1, OWN, 1)),
+             ("timeouts=7,9", bench.settings(1, OWN, 0, 7, 9)),
+             ("edition=1", bench.settings(1, OWN, edition=1, protection=0)),
+             ("edition=2", bench.settings(1, OWN, edition=2, protection=0)),
+             ("protection=1", bench.settings(1, OWN, edition=1, protection=1)),
+             ("protection=255 edition=0", bench.settings(1, OWN, edition=0, protection=255))]
+    faults = []
+    for words, record in pairs:
+        lines = read.read(f"ap own={OWN} {words}\n", "test")[1]
+        if read.bench_inputs(lines) != [(record, 0)] or len(record) != (17 if words[:1] in "rt" else 19):
+            faults.append(words)
+    second = f"station own={PEER} edition=2\nclock 1\nframe deauth from=p\n"
+    _, lines = read.read(f"ap own={OWN}\nname p = {OTHER}\nclock 2\n{second}", "test")
+    heard = bench.frame(bench.management(bench.DEAUTHENTICATION, PEER, OTHER, b"\3\0", third=OTHER))
+    wanted = [(bench.settings(1, OWN) + bench.clock(2), 1),
+              (bench.settings(2, PEER, edition=2) + bench.clock(1) + heard, 2)]
+    return faults + ([] if read.bench_inputs(lines) == wanted else ["two settings lines"])
+
+
+def primitives_by_word_and_number():
+    """A primitive by its word is the one by its number, with the code by either name."""
+    faults = []
+    for at, (word, code) in enumerate(PRIMITIVES, 1):
+        wanted = bench.primitive(at, PEER, 1)
+        for line in (f"prim {word} {PEER} {code}=1", f"prim {at} {PEER} {code}=1",
+                     f"prim {word} {PEER} code=1"):
+            if event(line).record != wanted:
+                faults.append(line)
+    return faults + ([] if len(PRIMITIVES) == len(primitives.TABLE) else ["more primitives"])
