@@ -5,7 +5,8 @@
  * on different tables may run at the same time.
  *
  *     static peer_table table;                                       // all zero: the empty table
- *     static const peer_settings ap = { PEER_AP, { 2, 0, 0, 0, 0, 0x0a }, 0, 100, 100, PEER_EDITION_1, 0 };
+ *     static const peer_settings ap = { PEER_AP, { 2, 0, 0, 0, 0, 0x0a }, 0, 100, 100, PEER_EDITION_1, 0,
+ *                                       PEER_QUERY_RETRY_USUAL, PEER_QUERY_MAXIMUM_USUAL };
  *     uint8_t out[PEER_OUT_LEAST];
  *     peer_answer a = peer_receive(&table, &ap, frame, frame_octets, out, sizeof out);
  *     if (a.written > 0)
@@ -19,10 +20,10 @@
  * What each call is lent
  *   table    read and written. Any contents are allowed: what is not well formed is refusal 2. A copy of its octets may be stored and
  *            brought back, on any processor.
- *   settings read only. What is out of range is refusal 2, an edition that was left 0 too. A host from before there were editions may go on
- *            with 12 octets in the calls of peer_table_octets.h.
+ *   settings read only. What is out of range is refusal 2, an edition or a query's time that was left 0 too, whatever the role. A host from
+ *            before there were editions or queries may go on with 12 or 14 octets in the calls of peer_table_octets.h.
  *   frame    read only, without FCS, any contents, any length; over 4,096 octets is refusal 3.
- *   out      written from its first octet; only the first `written` octets change. At least 34 octets, 256 for peer_pass; more is fine.
+ *   out      written from its first octet; only the first `written` octets change. At least 37 octets, 256 for peer_pass; more is fine.
  * No pointer may be null, also with length 0. Each points to as many octets as its length says; nothing beyond is read or written. They
  * must not overlap. While a call runs, nothing else may write to what it was lent.
  *
@@ -34,18 +35,28 @@
  *   - Answer each indication, by PEER_.._RESPONSE with any status, and report whether the peer acknowledged the answer to a
  *     (re)association (PEER_TRANSMIT_REPORT). An AP's places do not age: a peer that only asked keeps its place until it is answered, an
  *     authenticated one until it is deauthenticated. A place is freed by the next clock step.
- *   - Count time: the library has no clock. peer_pass is told how many TU passed; a station's timeouts and holds run by it alone.
+ *   - Count time: the library has no clock. peer_pass is told how many TU passed; a station's timeouts and holds and an AP's queries run by
+ *     it alone.
  *   - Ask again: nothing is repeated. After a timeout or a rejection the host decides whether and when it asks once more.
  *   - Drop duplicates: a frame that is received twice counts twice.
  *   - Complete the frames: out has no FCS, duration and sequence control are 0 for the radio to fill in, and elements are the host's to
- *     append (peer_comeback_append).
- *   - Tell true from false: who sent a frame is taken from its Address 2. A forged farewell or request is obeyed, until SA Query is there.
+ *     append (peer_comeback_append), but for the comeback time while a query runs.
+ *   - Send the queries, at an AP with edition 2 and protection. There a (re)association request in the name of a peer in State 4 is answered
+ *     with status 30 and a comeback time, both in the frame written; our side is told nothing, the peer stays as it is, and an SA Query runs.
+ *     Its request is due then (peer_query_is_due), and again at each PEER_KIND_QUERY_DUE of peer_pass: ask PEER_SA_QUERY_REQUEST and send what
+ *     is written. A response ends the query. After PEER_KIND_QUERY_TIMED_OUT the peer's next request passes, and is indicated as any other.
+ *   - Protect the frames: keys are not the library's, and the Protected bit is looked at for Public Action frames alone. The host protects
+ *     the farewells and queries that it sends to a peer in State 4 where protection is in use, and hands on none from it that is not.
+ *   - Tell true from false for the rest: who sent a frame is taken from its Address 2. With edition 1, or without protection, a forged farewell
+ *     or request is obeyed.
  *
  * What it runs on
  *   x86-64 (Linux; kernels: no red zone, general registers only), 64-bit and 32-bit Arm (Linux), Cortex-M4 (unaligned access not
  *   trapped), Cortex-M0+, RISC-V of 32 and 64 bits, WebAssembly; README.md says how each is tested. On x86-64 and on Arm under
  *   Linux the code uses vector registers, which code that is called from an interrupt has to save; the archive for kernels uses none.
- *   From the linker it wants at most memcpy and memset, by the names of the target's C library. Stack: PEER_STACK_OCTETS. */
+ *   From the linker it wants at most memcpy and memset, by the names of the target's C library, and on Arm of 32 bits without an
+ *   instruction for it division, on Cortex-M0+ a product of 64 bits too, which each compiler for them brings along (__aeabi_uidiv,
+ *   __aeabi_lmul). Stack: PEER_STACK_OCTETS. */
 #ifndef PEER_TABLE_H
 #define PEER_TABLE_H
 
@@ -67,6 +78,8 @@ typedef struct {
     uint16_t association_timeout;     /* the same, for reassociation too */
     uint8_t edition;                  /* PEER_EDITION_1 or PEER_EDITION_2 */
     uint8_t protection;               /* 1 where management frames are protected, else 0; edition 1 does not look at it */
+    uint16_t query_retry;             /* 1 to 65,535 TU: an SA Query that is not answered is due again each time they have passed */
+    uint16_t query_maximum;           /* 1 to 65,535 TU from its start: then it has timed out */
 } peer_settings;
 
 /* What a call answers. */
@@ -89,13 +102,16 @@ typedef struct {
     uint16_t left;    /* TU until the exchange sent times out; else 0 */
     uint8_t state;
     uint8_t exchange;
+    uint16_t identifier; /* of the last SA Query that was begun; 0 before the first, and behind 65,535 */
+    uint16_t query_left; /* TU until the query times out; 0 where none runs */
+    uint32_t query;      /* PEER_NO_QUERY to PEER_QUERY_TIMED_OUT */
 } peer_record;
 
 typedef struct {
     peer_record at[PEER_PLACES];
 } peer_table;
 
-/* An exchange that timed out. */
+/* A time that is over: an exchange's, or one of a query. */
 typedef struct {
     uint64_t address;
     uint8_t place;
@@ -106,12 +122,14 @@ typedef struct {
 typedef char peer_settings_are_octets[sizeof(peer_settings) == PEER_SETTINGS_OCTETS && offsetof(peer_settings, own) == 1 &&
     offsetof(peer_settings, rsna) == 7 && offsetof(peer_settings, authentication_timeout) == 8 &&
     offsetof(peer_settings, association_timeout) == 10 && offsetof(peer_settings, edition) == 12 &&
-    offsetof(peer_settings, protection) == 13 ? 1 : -1];
+    offsetof(peer_settings, protection) == 13 && offsetof(peer_settings, query_retry) == 14 &&
+    offsetof(peer_settings, query_maximum) == 16 ? 1 : -1];
 typedef char peer_answer_is_octets[sizeof(peer_answer) == PEER_ANSWER_OCTETS && offsetof(peer_answer, code) == 8 &&
     offsetof(peer_answer, written) == 10 && offsetof(peer_answer, refusal) == 12 && offsetof(peer_answer, verdict) == 13 &&
     offsetof(peer_answer, notice) == 14 && offsetof(peer_answer, ds) == 15 && offsetof(peer_answer, state) == 16 ? 1 : -1];
 typedef char peer_table_is_octets[sizeof(peer_record) == PEER_RECORD_OCTETS && offsetof(peer_record, hold) == 8 &&
     offsetof(peer_record, left) == 12 && offsetof(peer_record, state) == 14 && offsetof(peer_record, exchange) == 15 &&
+    offsetof(peer_record, identifier) == 16 && offsetof(peer_record, query_left) == 18 && offsetof(peer_record, query) == 20 &&
     sizeof(peer_table) == PEER_TABLE_OCTETS ? 1 : -1];
 
 /* A frame was received. Its sender is the peer; CTS, ACK and frames without a class name none. */
@@ -125,7 +143,7 @@ static inline peer_answer peer_receive(peer_table *table, const peer_settings *s
     return answer;
 }
 
-/* Our own side asks for something: one of the ten primitives, for the peer of this address. */
+/* Our own side asks for something: one of the eleven primitives, for the peer of this address. */
 static inline peer_answer peer_ask(peer_table *table, const peer_settings *settings, uint8_t primitive, uint64_t address,
                                    uint16_t code, uint8_t *out, size_t out_octets)
 {
@@ -136,8 +154,9 @@ static inline peer_answer peer_ask(peer_table *table, const peer_settings *setti
     return answer;
 }
 
-/* Time passed: 1 to 65,535 TU. Each exchange that timed out stands in out, in rising place: peer_timeout_at reads one, there are
-   written / PEER_TIMEOUT_OCTETS of them. Records with nothing left to keep are freed here and only here. */
+/* Time passed: 1 to 65,535 TU. Each exchange that timed out, each query that is due again or timed out stands in out, in rising place, one
+   a record: peer_timeout_at reads one, there are written / PEER_TIMEOUT_OCTETS of them. Records with nothing left to keep are freed here
+   and only here. */
 static inline peer_answer peer_pass(peer_table *table, const peer_settings *settings, uint16_t step, uint8_t *out, size_t out_octets)
 {
     peer_answer answer;
@@ -188,6 +207,14 @@ static inline const peer_record *peer_record_of(const peer_table *table, uint64_
         if (table->at[place].address == address)
             return peer_record_at(table, place);
     return NULL;
+}
+
+/* Whether the request of an SA Query to this peer is to be sent: PEER_SA_QUERY_REQUEST. */
+static inline int peer_query_is_due(const peer_table *table, uint64_t address)
+{
+    const peer_record *record = peer_record_of(table, address);
+
+    return record != NULL && record->query == PEER_QUERY_DUE;
 }
 
 /* The association identifier that an AP gives to the peer at this place. */

@@ -78,9 +78,16 @@ static inline const char *peer_exchange_name(unsigned number)
     return PEER_NAME_IN(names, number);
 }
 
+static inline const char *peer_query_name(unsigned number)
+{
+    static const char *const names[] = { "no SA Query", "SA Query running", "SA Query running, its request due", "SA Query timed out" };
+
+    return PEER_NAME_IN(names, number);
+}
+
 static inline const char *peer_kind_name(unsigned number)
 {
-    static const char *const names[] = { "no timeout", "authentication", "association", "reassociation" };
+    static const char *const names[] = { "no timeout", "authentication", "association", "reassociation", "SA Query due again", "SA Query" };
 
     return PEER_NAME_IN(names, number);
 }
@@ -89,7 +96,7 @@ static inline const char *peer_primitive_name(unsigned number)
 {
     static const char *const names[] = {
         "no primitive", "authenticate", "answer authentication", "deauthenticate", "associate", "reassociate", "disassociate",
-        "answer association", "answer reassociation", "set protection", "report transmission",
+        "answer association", "answer reassociation", "set protection", "report transmission", "send SA Query request",
     };
 
     return PEER_NAME_IN(names, number);

@@ -4,9 +4,11 @@
  * little-endian, or that brings its own forms, includes this file by itself.
  *
  * Every number of several octets is little-endian. A slice lies at any alignment, its length is 64 bits on every processor.
- *   table      512 octets, read and written: 32 records of address 8, hold 4, left 2, state 1, exchange 1. All zero: the empty table
- *   settings   14 octets: role 1, own address 6 (as in a frame), rsna 1, authentication timeout 2, association timeout 2, edition 1,
- *              protection 1. Or the first 12 of these: edition 1 without protection
+ *   table      768 octets, read and written: 32 records of address 8, hold 4, left 2, state 1, exchange 1, and of the SA Query identifier 2,
+ *              left 2, number 4. All zero: the empty table
+ *   settings   18 octets: role 1, own address 6 (as in a frame), rsna 1, authentication timeout 2, association timeout 2, edition 1,
+ *              protection 1, query retry 2, query maximum 2. Or the first 14 of these, with the usual times of a query; or the first 12:
+ *              edition 1 without protection besides
  *   frame      any octets, without FCS
  *   out        what the call writes, from its first octet on
  *   answer     24 octets or more, of which 24 are written: current AP 8, code 2, written 2, refusal 1, verdict 1, notice 1,
@@ -19,29 +21,33 @@
 #include <stdint.h>
 
 /* Rises when a call, a layout or a number changes. */
-#define PEER_TABLE_VERSION 3
+#define PEER_TABLE_VERSION 4
 
-/* Sizes in octets, counts, and the one time that the rules fix. A time is in TU of 1,024 microseconds. */
+/* Sizes in octets, counts, and the times that the rules fix. A time is in TU of 1,024 microseconds. */
 enum {
     PEER_PLACES = 32,
-    PEER_RECORD_OCTETS = 16,
-    PEER_TABLE_OCTETS = 512,
-    PEER_SETTINGS_OCTETS = 14,
-    PEER_SETTINGS_OCTETS_LEAST = 12, /* without edition and protection; no other length is taken */
+    PEER_RECORD_OCTETS = 24,
+    PEER_TABLE_OCTETS = 768,
+    PEER_SETTINGS_OCTETS = 18,
+    PEER_SETTINGS_OCTETS_EDITION = 14, /* without a query's times */
+    PEER_SETTINGS_OCTETS_LEAST = 12,   /* nor edition and protection; no other length is taken */
     PEER_ANSWER_OCTETS = 24,
     PEER_ADDRESS_OCTETS = 6,
     PEER_FRAME_LONGEST = 4096,
-    PEER_OUT_LEAST = 34,       /* a frame was received, our side asks: the longest frame written */
+    PEER_OUT_LEAST = 37,       /* a frame was received, our side asks: the longest frame written */
     PEER_PASS_OUT_LEAST = 256, /* time passed: 32 timeouts */
     PEER_TIMEOUT_OCTETS = 8,   /* one timeout: place, kind, address of six octets */
-    PEER_STACK_OCTETS = 1280,  /* below the caller's frame, on every target; tested, not proved: README.md has the most seen */
-    PEER_HOLD_USUAL = 1954     /* 2 s: the hold after a rejection without a comeback time, and after a disassociation received */
+    PEER_STACK_OCTETS = 1536,  /* below the caller's frame, on every target; tested, not proved: README.md has the most seen */
+    PEER_HOLD_USUAL = 1954,    /* 2 s: the hold after a rejection without a comeback time, and after a disassociation received */
+    PEER_QUERY_RETRY_USUAL = 201,   /* a query's times in settings that do not say them */
+    PEER_QUERY_MAXIMUM_USUAL = 1000
 };
 
 /* The role in the settings */
 enum { PEER_AP = 1, PEER_STATION = 2 };
 
-/* The edition in the settings: where a peer stands after an AP has rejected its (re)association. Nothing else depends on it. */
+/* The edition in the settings: where a peer stands after an AP has rejected its (re)association. With protection edition 2 also has each
+   (re)association request from a peer in State 4 asked back by an SA Query. Nothing else depends on it. */
 enum {
     PEER_EDITION_1 = 1, /* in State 2: a peer that was associated is so no longer */
     PEER_EDITION_2 = 2  /* where it stood, also associated; only State 4 becomes 3 where management frames are not protected */
@@ -109,8 +115,22 @@ enum {
     PEER_SENT_REASSOCIATION = 9
 };
 
-/* The kind of a timeout */
-enum { PEER_KIND_AUTHENTICATION = 1, PEER_KIND_ASSOCIATION = 2, PEER_KIND_REASSOCIATION = 3 };
+/* The SA Query of a record, an AP's in State 4: whether a request to join came from the peer that has joined, or from another in its name */
+enum {
+    PEER_NO_QUERY = 0,
+    PEER_QUERY_RUNNING = 1,  /* its request was sent */
+    PEER_QUERY_DUE = 2,      /* it runs, and its request is to be sent, first or once more: PEER_SA_QUERY_REQUEST */
+    PEER_QUERY_TIMED_OUT = 3 /* nobody answered: the next (re)association request passes, and uses this up */
+};
+
+/* The kind of a timeout: an exchange ended, or a time of a query is over */
+enum {
+    PEER_KIND_AUTHENTICATION = 1,
+    PEER_KIND_ASSOCIATION = 2,
+    PEER_KIND_REASSOCIATION = 3,
+    PEER_KIND_QUERY_DUE = 4,      /* the retry time: the request is due once more */
+    PEER_KIND_QUERY_TIMED_OUT = 5 /* the maximum: the query ended without an answer */
+};
 
 /* Primitives of our own side: for whom, and which code goes with it */
 enum {
@@ -123,7 +143,8 @@ enum {
     PEER_ASSOCIATE_RESPONSE = 7,    /* AP, status */
     PEER_REASSOCIATE_RESPONSE = 8,  /* AP, status */
     PEER_SET_PROTECTION = 9,        /* both, 0: the keys are in place, State 3 becomes 4 */
-    PEER_TRANSMIT_REPORT = 10       /* AP: was our (re)association response acknowledged? */
+    PEER_TRANSMIT_REPORT = 10,      /* AP: was our (re)association response acknowledged? */
+    PEER_SA_QUERY_REQUEST = 11      /* AP, 0: sends the request of a query that is due */
 };
 
 /* The code of PEER_TRANSMIT_REPORT */
@@ -135,7 +156,7 @@ enum {
     PEER_STATUS_UNSPECIFIED = 1,       /* to a (re)association request in State 1; confirm of a join that can't be asked */
     PEER_STATUS_ALGORITHM = 13,        /* to an authentication that is not open */
     PEER_STATUS_FULL = 17,             /* to an authentication when no place is free */
-    PEER_STATUS_TRY_LATER = 30,        /* rejected for now; the comeback time is in an element of the response */
+    PEER_STATUS_TRY_LATER = 30,        /* rejected for now, by the host or while an SA Query runs; the comeback time is in an element */
     PEER_REASON_LEAVING = 3,           /* deauthenticated because leaving */
     PEER_REASON_NOT_AUTHENTICATED = 6, /* class 2 frame in State 1 */
     PEER_REASON_NOT_ASSOCIATED = 7,    /* class 3 frame in State 1 or 2 */
@@ -145,6 +166,9 @@ enum {
 /* The element of a rejection that says after how many TU the station may come back: id 56, length 5, type 3, a number of 4 octets.
    A comeback of 0 is a hold of 0: the station may ask again at once. Without the element the hold is PEER_HOLD_USUAL. */
 enum { PEER_COMEBACK_ELEMENT = 56, PEER_COMEBACK_LENGTH = 5, PEER_COMEBACK_TYPE = 3, PEER_COMEBACK_OCTETS = 7 };
+
+/* An SA Query frame: an Action frame (subtype 13) of 28 octets, category at octet 24, action at 25, identifier in two octets from 26 on */
+enum { PEER_CATEGORY_SA_QUERY = 8, PEER_ACTION_QUERY_REQUEST = 0, PEER_ACTION_QUERY_RESPONSE = 1, PEER_QUERY_OCTETS = 28 };
 
 #ifdef __cplusplus
 extern "C" {

@@ -17,8 +17,11 @@ DISASSOCIATION, AUTHENTICATION, DEAUTHENTICATION = 10, 11, 12
 ACTION, ACTION_NO_ACK = 13, 14
 PS_POLL, RTS, CTS, ACK = 10, 11, 12, 13
 
-# The category of a Public Action, and the Protected bit in the second octet of Frame Control.
+# The categories of a Public Action and of SA Query with its two actions, and the Protected bit in the
+# second octet of Frame Control.
 PUBLIC = 4
+SA_QUERY = 8
+QUERY_REQUEST, QUERY_RESPONSE = 0, 1
 PROTECTED = 0x40
 TIMEOUT_INTERVAL = 56
 COMEBACK = 3
@@ -69,14 +72,22 @@ def record(kind, body, length=None, mark=MARK):
     return mark + bytes((kind,)) + number(len(body) if length is None else length) + body
 
 
+# What settings mean that do not say it: edition, protection, a query's retry and maximum times in TU.
+USUAL_RULE = (1, 0, 201, 1000)
+
+
 def settings(role, own, rsna=0, authentication_timeout=100, association_timeout=100, edition=None,
-             protection=None):
-    """A record of 12 octets, or of 14 where an edition or a protection flag is given: the other is
-    then what the shorter record means."""
+             protection=None, query_retry=None, query_maximum=None):
+    """A record of 12 octets; of 14 where an edition or a protection flag is given, of 18 where a
+    query's retry or maximum time is. What is not given then is what the shorter record means."""
+    rule = edition, protection, query_retry, query_maximum
+    values = [usual if value is None else value for value, usual in zip(rule, USUAL_RULE)]
     body_ = bytes((role,)) + address(own) + bytes((rsna,))
     body_ += number(authentication_timeout) + number(association_timeout)
-    if edition is not None or protection is not None:
-        body_ += bytes((1 if edition is None else edition, protection or 0))
+    if any(value is not None for value in rule):
+        body_ += bytes(values[:2])
+    if any(value is not None for value in rule[2:]):
+        body_ += number(values[2]) + number(values[3])
     return record(SETTINGS, body_)
 
 
@@ -189,6 +200,13 @@ def action(receiver, sender, octets=b"", subtype=ACTION, flags=0, version=0):
     """An Action frame; the first of the octets behind the header, if any, is its category."""
     control_octets = frame_control(MANAGEMENT, subtype, version, flags=flags)
     return header(control_octets, receiver, sender) + octets
+
+
+def sa_query(receiver, sender, what, identifier, length=None, **given):
+    """An SA Query frame: category 8, its action, and the identifier; cut, or filled with 00, to a
+    length where one is given."""
+    octets = action(receiver, sender, bytes((SA_QUERY, what)) + number(identifier), **given)
+    return octets if length is None else octets[:length].ljust(length, b"\0")
 
 
 def any_frame(kind, subtype, receiver, sender, length, fill=b"\0", version=0, ds=0, flags=0):

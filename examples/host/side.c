@@ -75,10 +75,10 @@ peer_answer side_pass(struct side *side, uint16_t step)
         peer_timeout t = peer_timeout_at(side->out, a.written, i);
 
         say_who(side->name);
-        say_part("no answer: ", peer_kind_name(t.kind));
+        say_part(t.kind == PEER_KIND_QUERY_DUE ? "no answer yet: " : "no answer: ", peer_kind_name(t.kind));
         say(" with ");
         say_address(t.address);
-        say(" timed out, place ");
+        say(t.kind == PEER_KIND_QUERY_DUE ? ", place " : " timed out, place ");
         say_number(t.place);
         say("\n");
     }

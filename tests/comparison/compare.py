@@ -24,7 +24,8 @@ LINE = re.compile(rb"^(\d+) (\d+) (\S) (\d+) (\d+) (\d+) (\S) (\d+)$", re.MULTIL
 EVENT = re.compile(rb"^(\d+) \d+ \S \d+ \d+ \d+ \S \d+$")
 # Field of a line, what it is, and every value that must be seen.
 WANTED = ((1, "refusal", "0 2 3 4 5 6 7 8 9".split()), (2, "verdict", ["A", "D", "-"]),
-          (3, "notice", [str(n) for n in range(11)]), (6, "DS", ["J", "L", "-"]),
+          (3, "notice", [str(n) for n in range(11)]),
+          (5, "written", "0 8 16 26 28 30 34 37".split()), (6, "DS", ["J", "L", "-"]),
           (7, "state", [str(n) for n in range(5)]))
 EXEMPT = "refusal 1 is exempt: the bench lends 256 bytes to every event"
 SECONDS = 120

@@ -10,7 +10,7 @@ import pathlib
 
 from tools import bench_input as bench
 
-from . import walk_ap, walk_damage, walk_station, walk_sweep
+from . import walk_ap, walk_damage, walk_query, walk_station, walk_sweep
 from .walk import Dice, Walk
 
 # Events of one input; a walk or a sweep may make a few more.
@@ -18,16 +18,19 @@ WALK_EVENTS = 1000
 FULL_EVENTS = 400
 REFUSED_EVENTS = 25
 LONGEST_HOLD_EVENTS = 65544
+IDENTIFIERS_EVENTS = 131083
 SWEEP_EVENTS = 968
 KINDS = ("ap", "station", "ap-full", "station-full", "refused", "damaged", "sweep",
-         "longest-hold")
+         "longest-hold", "identifiers")
 # One round of walks; a plan repeats it until the count is reached.
 ROUND = ("ap", "station", "ap", "station", "ap", "station", "ap-full", "ap", "station",
          "station-full", "ap", "station")
 TIMEOUTS = (1, 2, 3, 10, 50, 100, 100, 500, 1000, 1954, 30000, 65534, 65535)
 CROWD = 33
-# Edition and protection; without them the settings record has 12 octets.
-RULES = ((), (1, 0), (1, 1), (2, 0), (2, 0), (2, 1), (2, 1))
+# Edition and protection; without them the settings record has 12 octets. Behind them a query's times,
+# in the record of 18.
+RULES = ((), (1, 0), (1, 1), (2, 0), (2, 0), (2, 1), (2, 1), (2, 1), (2, 1), (2, 1))
+QUERY_TIMES = (1, 2, 3, 5, 7, 10, 10, 20, 30, 100, 201, 1000, 65534, 65535)
 
 Job = collections.namedtuple("Job", "name kind seed index events")
 
@@ -51,8 +54,11 @@ def plan(seed, count, kind=None):
             add("sweep", index, SWEEP_EVENTS)
     if kind == "longest-hold" or kind is None and count > 4 * LONGEST_HOLD_EVENTS:
         add("longest-hold", 0, LONGEST_HOLD_EVENTS)
-    walks = [name for name in ROUND if kind in (None, name)]
     planned = sum(job.events for job in jobs)
+    # So long that it comes on top, or there would be no room for the walks.
+    if kind == "identifiers" or kind is None and count > 2 * IDENTIFIERS_EVENTS:
+        add("identifiers", 0, IDENTIFIERS_EVENTS)
+    walks = [name for name in ROUND if kind in (None, name)]
     while walks and planned < count:
         for walk_kind in walks:
             usual = FULL_EVENTS if walk_kind.endswith("full") else WALK_EVENTS
@@ -61,6 +67,12 @@ def plan(seed, count, kind=None):
                 add(walk_kind, len(jobs), events)
                 planned += events
     return jobs
+
+
+def rule_of(dice):
+    """Edition and protection, and for most of those that have them a query's times too."""
+    rule = dice.of(RULES)
+    return (*rule, dice.of(QUERY_TIMES), dice.of(QUERY_TIMES)) if rule and dice.chance(75) else rule
 
 
 def walked(job, dice):
@@ -72,7 +84,7 @@ def walked(job, dice):
     timeouts = dice.of(TIMEOUTS), dice.of(TIMEOUTS)
     if full and role == bench.STATION:
         timeouts = dice.of((20, 1000, 65535)), timeouts[1]
-    walk = Walk(dice, role, peers, dice.below(2), timeouts, dice.of(RULES))
+    walk = Walk(dice, role, peers, dice.below(2), timeouts, rule_of(dice))
     if full:
         moves.fill(walk)
     while walk.events() < job.events:
@@ -92,6 +104,10 @@ def make(job):
     if job.kind == "longest-hold":
         walk = Walk(dice, bench.STATION, 1, 0, (100, 100))
         walk_station.longest_hold(walk)
+        return walk.octets()
+    if job.kind == "identifiers":
+        walk = Walk(dice, bench.ACCESS_POINT, 1, 0, (100, 100), (2, 1))
+        walk_query.every_identifier(walk)
         return walk.octets()
     return walked(job, dice)
 

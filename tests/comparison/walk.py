@@ -50,14 +50,16 @@ class Dice:
 class Peer:
     """The guess for one address; state 0 is 'no record'."""
 
-    __slots__ = ("address", "state", "exchange", "left", "hold")
+    __slots__ = ("address", "state", "exchange", "left", "hold", "query", "identifier")
 
     def __init__(self, address):
         self.address = address
         self.clear()
 
     def clear(self):
+        """The query is the TU left of one that runs, 0 for the mark of one that timed out, or None."""
         self.state, self.exchange, self.left, self.hold = 0, None, 0, 0
+        self.query, self.identifier = None, 0
 
     def end_exchange(self):
         self.exchange, self.left = None, 0
@@ -70,9 +72,11 @@ class Walk:
     """Settings, peers and the records so far."""
 
     def __init__(self, dice, role, peer_count, rsna, timeouts, rule=()):
-        """The rule is edition and protection; none of them makes a settings record of 12 octets."""
+        """The rule is edition and protection, then a query's retry and maximum times; what is left out
+        makes the settings record shorter."""
         self.dice, self.role, self.rsna, self.timeouts = dice, role, rsna, timeouts
-        self.edition, self.protection = rule or (1, 0)
+        rule_ = (*rule, *bench.USUAL_RULE[len(rule):])
+        self.edition, self.protection, self.retry, self.maximum = rule_
         self.own = OWN
         self.peers = [Peer(bench.address(f"02:00:00:00:01:{n:02x}")) for n in range(peer_count)]
         self.records = [bench.settings(role, OWN, rsna, *timeouts, *rule)]
@@ -101,6 +105,8 @@ class Walk:
 
     def _age(self, peer, step):
         peer.hold = max(0, peer.hold - step)
+        if peer.query:
+            peer.query = max(0, peer.query - step)
         if peer.left:
             peer.left = max(0, peer.left - step)
             if not peer.left:
@@ -130,18 +136,18 @@ class Walk:
         """By an AP's own answer: the first edition lowers to State 2, the second only State 4, to 3,
         and where management frames are protected nothing."""
         if self.edition == 1:
-            peer.state = 2
+            peer.state, peer.query = 2, None
         elif peer.state == 4 and not self.protection:
-            peer.state = 3
+            peer.state, peer.query = 3, None
 
     def deauthenticated(self, peer):
         if peer.state > 1:
-            peer.state = 1
+            peer.state, peer.query = 1, None
             peer.end_exchange()
 
     def disassociated(self, peer, hold=0):
         if peer.state > 2:
-            peer.state = 2
+            peer.state, peer.query = 2, None
             peer.end_exchange()
             peer.hold = max(peer.hold, hold)
 
@@ -198,7 +204,8 @@ def repeat(walk, _peer):
 def let_time_pass(walk, _peer):
     """A step that is small, or stops at, just before or just after the end of some time."""
     dice = walk.dice
-    ends = [time for peer in walk.peers for time in (peer.left, peer.hold) if time]
+    ends = [time for peer in walk.peers for time in (peer.left, peer.hold, peer.query) if time]
+    ends += [walk.retry - (walk.maximum - peer.query) % walk.retry for peer in walk.peers if peer.query]
     if ends and dice.chance(55):
         step = dice.of(ends) + dice.below(3) - 1
     else:

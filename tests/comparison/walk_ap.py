@@ -5,6 +5,7 @@ from tools import bench_input as bench
 from .walk import (ASKED, ASSOCIATION, AUTHENTICATION, AWAITING, REASSOCIATION, fall_by_frame,
                    fall_by_primitive, let_time_pass, protect, repeat, send_data)
 from .walk_odd import odd_action, odd_elements, odd_frame, odd_primitive, odd_response
+from .walk_query import answer_query, ask_query, denied, hear_query, wait_for_query
 
 ANSWERS = {ASSOCIATION: 7, REASSOCIATION: 8}
 REJECTIONS = (1, 12, 17, 30, 65535)
@@ -34,7 +35,7 @@ def hear_request(walk, peer):
         current = dice.of((walk.own, bench.ZERO, bench.BROADCAST, dice.of(walk.peers).address))
         octets = bench.reassociation_request(receiver, peer.address, current, elements=elements)
     walk.hear(octets)
-    if peer.state > 1 and receiver == walk.own:
+    if peer.state > 1 and receiver == walk.own and not denied(walk, peer):
         peer.exchange = (ASKED, kind)
 
 
@@ -71,6 +72,16 @@ def report(walk, peer):
         peer.end_exchange()
         if acknowledged:
             peer.state = 3 if walk.rsna else 4
+            peer.query = None if walk.rsna else peer.query
+
+
+def go_on_with_query(walk, peer):
+    """What brings a query on, or the request that is let pass once it has timed out."""
+    if peer.query == 0 or walk.dice.chance(12):
+        hear_request(walk, peer)
+    else:
+        walk.dice.of((ask_query, ask_query, wait_for_query, wait_for_query, wait_for_query,
+                      hear_query, answer_query))(walk, peer)
 
 
 def go_on(walk, peer):
@@ -88,13 +99,15 @@ def go_on(walk, peer):
         hear_request(walk, peer)
     elif peer.state == 3 and dice.chance(60):
         protect(walk, peer)
+    elif peer.query is not None and dice.chance(70):
+        go_on_with_query(walk, peer)
     else:
         dice.of((send_data, hear_request, hear_authentication, send_data))(walk, peer)
 
 
-MOVES = ((49, go_on), (6, send_data), (4, repeat), (4, hear_request), (3, hear_authentication),
+MOVES = ((44, go_on), (6, send_data), (4, repeat), (5, hear_request), (3, hear_authentication),
          (3, fall_by_frame), (2, fall_by_primitive), (2, answer_request), (1, report),
-         (1, answer_authentication), (2, protect), (3, let_time_pass),
+         (1, answer_authentication), (2, protect), (3, let_time_pass), (3, hear_query), (1, ask_query),
          (7, odd_frame), (3, odd_response), (3, odd_action), (7, odd_primitive))
 
 

@@ -17,7 +17,10 @@ OUT_OF_RANGE = (
     dict(own="01:00:00:00:00:00"), dict(role=bench.STATION, own=bench.ZERO),
     dict(edition=0), dict(edition=3), dict(edition=255), dict(role=bench.STATION, edition=0),
     dict(protection=2), dict(edition=2, protection=255),
-    dict(role=bench.STATION, edition=2, protection=2))
+    dict(role=bench.STATION, edition=2, protection=2),
+    dict(query_retry=0), dict(query_maximum=0), dict(role=bench.STATION, query_retry=0),
+    dict(edition=2, protection=1, query_retry=0, query_maximum=0),
+    dict(edition=3, query_retry=201), dict(protection=2, query_maximum=1000))
 
 
 def base():
@@ -63,13 +66,14 @@ def bad_starts():
     good = bench.settings(**GOOD)
     body = good[5:]
     rest = b"".join(base()[1:])
-    lengths = [bench.record(bench.SETTINGS, (body + b"\1\0\0\0\0")[:length])
-               for length in (0, 1, 11, 13, 14, 15, 16, 17)]
-    lying = [bench.record(bench.SETTINGS, body, length=14),
-             bench.record(bench.SETTINGS, body + b"\1\0", length=12)]
+    longer = body + b"\1\0\1\0\1\0\1"
+    lengths = [bench.record(bench.SETTINGS, longer[:length])
+               for length in (0, 1, 11, 13, 14, 15, 16, 17, 18, 19)]
+    lying = [bench.record(bench.SETTINGS, longer[:length], length=other)
+             for length, other in ((12, 14), (14, 12), (14, 18), (18, 14))]
     starts = lengths + lying + [bench.record(bench.SETTINGS, body, mark=b"\0\0"), b"", b"\n"]
-    cut = bench.settings(**GOOD, edition=2)[:-1]
-    return [start + rest for start in starts] + [good, cut, good + good, good + b"\0", b"\x0b", b"\x0c"]
+    cut = [bench.settings(**GOOD, edition=2)[:-1], bench.settings(**GOOD, query_retry=1)[:-1]]
+    return [start + rest for start in starts] + cut + [good, good + good, good + b"\0", b"\x0b", b"\x0c"]
 
 
 def damaged_inputs():

@@ -22,7 +22,7 @@ BROKEN_ENDS = (b"\x38", b"\0", b"\xff", b"\x38\5", b"\0\1", b"\x38\5\3\0", b"\x3
                bench.element(221, b"\x38\5\3\0\0\0\0", length=8),
                bench.element(221, b"\x38\5\3\0\0\0\0", length=255))
 CODES = (0, 1, 2, 17, 256, 65535)
-SINGLE_CODE = (1, 4, 5, 9)
+SINGLE_CODE = (1, 4, 5, 9, 11)
 ANY_BUT_ZERO = (3, 6)
 
 
@@ -125,15 +125,15 @@ def odd_primitive(walk, peer):
     strange address."""
     dice = walk.dice
     fault = dice.below(5)
-    which = 1 + dice.below(10)
+    which = 1 + dice.below(11)
     if fault == 0:
-        which = dice.of((0, 11, 12, 13, 128, 255))
+        which = dice.of((0, 12, 13, 128, 255))
         walk.ask(which, peer.address, dice.of(CODES))
     elif fault == 1:
-        which = dice.of((2, 7, 8, 10) if walk.role == bench.STATION else (1, 4, 5))
+        which = dice.of((2, 7, 8, 10, 11) if walk.role == bench.STATION else (1, 4, 5))
         walk.ask(which, peer.address, good_code(dice, which))
     elif fault == 2:
-        which = dice.of((1, 3, 4, 5, 6, 9, 10))
+        which = dice.of((1, 3, 4, 5, 6, 9, 10, 11))
         walk.ask(which, peer.address, bad_code(dice, which))
     elif fault == 3:
         walk.ask(which, dice.of(GROUPS + (bench.ZERO, walk.own)), good_code(dice, which))

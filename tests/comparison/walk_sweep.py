@@ -14,9 +14,9 @@ SWEEPS = tuple((role, rsna, state, rule)
                for rsna, state in ((0, 0), (0, 1), (1, 2), (1, 3), (0, 4)))
 SWEEPS += tuple((bench.ACCESS_POINT, rsna, state, rule)
                 for rsna, state, rule in ((0, 4, (1, 1)), (0, 3, (2, 0)), (0, 4, (2, 0)),
-                                          (1, 3, (2, 1)), (0, 4, (2, 1))))
+                                          (1, 3, (2, 1)), (0, 4, (2, 1)), (0, 4, (2, 1, 10, 25))))
 RESPONSES = (bench.ASSOCIATION_RESPONSE, bench.REASSOCIATION_RESPONSE)
-PRIMITIVES = tuple(range(12))
+PRIMITIVES = tuple(range(13))
 CODES = (0, 1, 2, 65535)
 
 
@@ -77,6 +77,40 @@ def sweep_actions(walk, peer):
                         walk.hear(bench.action(receiver, peer.address, body, subtype, flags))
 
 
+def sweep_query_frames(walk, peer):
+    """Frames about an SA Query: its length, category, action, identifier and flags, and those beside."""
+    for subtype in (bench.ACTION, bench.ACTION_NO_ACK):
+        for receiver in (walk.own, GROUPS[0], FOREIGN[0]):
+            for body in (b"\x07\0\1\0", b"\x08\0\1\0", b"\x08\1\0\0", b"\x08\1\2\0", b"\x08\1\1\1",
+                         b"\x08\2\1\0", b"\x09\1\1\0", b"\x08\1\1\0"):
+                for length in range(6):
+                    flags = bench.PROTECTED if length % 2 else 0
+                    octets = (body + b"\0")[:length]
+                    walk.hear(bench.action(receiver, peer.address, octets, subtype, flags))
+
+
+def sweep_queries(walk, peer, reach):
+    """A request; then, with its query due, sent, at and about a retry and its maximum, each: a second
+    request of either kind, primitive 11, a response, or time."""
+    request = bench.association_request(walk.own, peer.address)
+    again = bench.reassociation_request(walk.own, peer.address, FOREIGN[0])
+    response = bench.sa_query(walk.own, peer.address, bench.QUERY_RESPONSE, 1)
+    events = ((walk.hear, request), (walk.hear, again), (walk.ask, 11, peer.address),
+              (walk.hear, response), (walk.pass_time, 1), (walk.pass_time, walk.maximum))
+    retry, maximum = walk.retry, walk.maximum
+    for sent in (False, True):
+        for step in (0, retry - 1, retry, retry + 1, 2 * retry, maximum - 1, maximum, maximum + 1):
+            for event, *given in events:
+                reach()
+                walk.hear(request)
+                if sent:
+                    walk.ask(11, peer.address)
+                walk.pass_time(step)
+                event(*given)
+                walk.ask(11, peer.address)
+                walk.hear(request)
+
+
 def sweep_primitives(walk, peer, reach):
     for which in PRIMITIVES:
         for code in CODES:
@@ -111,6 +145,8 @@ def swept(dice, index):
     sweep_frames(walk, peer, reach)
     sweep_actions(walk, peer)
     sweep_primitives(walk, peer, reach)
+    sweep_query_frames(walk, peer)
     if role == bench.ACCESS_POINT:
         sweep_answers(walk, peer, reach)
+        sweep_queries(walk, peer, reach)
     return walk.octets()

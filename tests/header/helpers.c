@@ -6,8 +6,8 @@
 #include <stdio.h>
 #include <string.h>
 
-#if PEER_TABLE_VERSION != 3
-#error "this test is of version 3"
+#if PEER_TABLE_VERSION != 4
+#error "this test is of version 4"
 #endif
 
 static int faults;
@@ -46,6 +46,9 @@ static void records(void)
     want(peer_record_of(&table, 4) == &table.at[0] && peer_record_of(&table, 8) == &table.at[31], "a record by its address");
     want(!peer_record_of(&table, 6) && !peer_record_of(&table, 0), "no record by an address");
     want(peer_aid(0) == 1 && peer_aid(31) == 32, "the AID of a place");
+    table.at[0].query = PEER_QUERY_RUNNING;
+    table.at[31].query = PEER_QUERY_DUE;
+    want(peer_query_is_due(&table, 8) && !peer_query_is_due(&table, 4) && !peer_query_is_due(&table, 6), "a query that is due");
 }
 
 static void comebacks(void)
@@ -87,16 +90,17 @@ static void names(void)
     named(peer_ds_name, 3, "the words to the distribution system");
     named(peer_state_name, 5, "the names of states");
     named(peer_exchange_name, 10, "the names of exchanges");
-    named(peer_kind_name, 4, "the names of kinds");
-    named(peer_primitive_name, 11, "the names of primitives");
+    named(peer_query_name, 4, "the names of queries");
+    named(peer_kind_name, 6, "the names of kinds");
+    named(peer_primitive_name, 12, "the names of primitives");
     want(strcmp(peer_code_name(PEER_AUTHENTICATION_CONFIRM), "status") == 0 && strcmp(peer_code_name(11), "unknown") == 0, "a code's name");
 }
 
 /* A station asks, its request is heard by an AP, and its time runs out. */
 static void calls(void)
 {
-    static const peer_settings ap = { PEER_AP, { 2, 0, 0, 0, 0, 0x0a }, 0, 100, 100, PEER_EDITION_1, 0 };
-    static const peer_settings station = { PEER_STATION, { 2, 0, 0, 0, 1, 1 }, 0, 100, 100, PEER_EDITION_2, 1 };
+    static const peer_settings ap = { PEER_AP, { 2, 0, 0, 0, 0, 0x0a }, 0, 100, 100, PEER_EDITION_1, 0, 201, 1000 };
+    static const peer_settings station = { PEER_STATION, { 2, 0, 0, 0, 1, 1 }, 0, 100, 100, PEER_EDITION_2, 1, 201, 1000 };
     peer_table at_ap, at_station;
     uint8_t out[PEER_PASS_OUT_LEAST], answer[PEER_OUT_LEAST];
     peer_answer a;
@@ -114,10 +118,10 @@ static void calls(void)
     want(a.refusal == PEER_REFUSED_BUFFER && a.written == 0, "a refusal");
 }
 
-/* Settings from before there were editions: refused as a struct, taken as the octets that they were. */
+/* Settings from before there were editions, or queries: refused as a struct, taken as the octets that they were. */
 static void older_settings(void)
 {
-    peer_settings older = { PEER_STATION, { 2, 0, 0, 0, 1, 1 }, 0, 100, 100, 0, 0 };
+    peer_settings older = { PEER_STATION, { 2, 0, 0, 0, 1, 1 }, 0, 100, 100, 0, 0, 0, 0 };
     peer_table table;
     uint8_t out[PEER_PASS_OUT_LEAST];
     peer_answer a;
@@ -126,6 +130,10 @@ static void older_settings(void)
     want(peer_pass(&table, &older, 1, out, sizeof out).refusal == PEER_REFUSED_TABLE, "no edition");
     want(peer_pass_octets((uint8_t *)&table, sizeof table, (const uint8_t *)&older, PEER_SETTINGS_OCTETS_LEAST, 1, out, sizeof out,
                           (uint8_t *)&a, sizeof a) == PEER_DONE, "settings of 12 octets");
+    older.edition = PEER_EDITION_2;
+    want(peer_pass(&table, &older, 1, out, sizeof out).refusal == PEER_REFUSED_TABLE, "no times of a query");
+    want(peer_pass_octets((uint8_t *)&table, sizeof table, (const uint8_t *)&older, PEER_SETTINGS_OCTETS_EDITION, 1, out, sizeof out,
+                          (uint8_t *)&a, sizeof a) == PEER_DONE, "settings of 14 octets");
 }
 
 int main(void)

@@ -141,7 +141,7 @@ struct pt_answer checked(struct call *c, struct chance *chance)
     call_on(lent_stack(PEER_STACK_OCTETS + CALLER), library, &l);
     call_under_way = NULL;
     compare(&l, &o, settings);
-    tally_add(c, &o.answer);
+    tally_add(c, &o.answer, o.out);
     record(c, settings, &o.answer, o.table, o.out, o.octets);
     memcpy(c->table, o.table, c->table_octets);
     return o.answer;

@@ -12,14 +12,17 @@ peer_settings draw_settings(struct chance *c, uint8_t role);
 void spoil_settings(struct chance *c, peer_settings *s);
 uint64_t own_of(const struct call *call);
 
-/* Table, settings and answer of the lengths that a host has: now and then settings from before there were editions. Then now and then
-   another length of settings or answer. */
+/* Table, settings and answer of the lengths that a host has: now and then settings from before there were queries, or editions. Then now and
+   then another length of settings or answer. */
 void lend_usual(struct call *call, struct chance *c);
 void draw_lengths(struct chance *c, struct call *call);
 
-/* A well-formed table, crowded or not; then one with a single field spoilt. */
-void draw_table(struct chance *c, const peer_settings *s, uint8_t *octets);
+/* A table, crowded or not, that is well formed under the call's settings; then one with a single field spoilt. */
+void draw_table(struct chance *c, struct call *call);
 void spoil_table(struct chance *c, const peer_settings *s, uint8_t *octets);
+
+/* The record of an address as the call's table stands, or zeros. */
+struct pt_record standing(const struct call *call, uint64_t address);
 
 /* An event that may mean something to the table as it stands; the buffer is nearly always long enough. */
 void draw_event(struct chance *c, struct call *call);

@@ -52,6 +52,18 @@ static void draw_body(struct chance *c, uint8_t *frame, unsigned subtype, uint8_
     }
 }
 
+/* An SA Query frame, mostly with the identifier of the peer's record: 28 octets, now and then cut or with more behind. */
+static void draw_query(struct chance *c, struct call *call, uint64_t peer)
+{
+    uint8_t *frame = call->frame;
+
+    frame[24] = (uint8_t)(percent(c, 92) ? PEER_CATEGORY_SA_QUERY : below(c, 256));
+    frame[25] = (uint8_t)(percent(c, 92) ? below(c, 2) : below(c, 256));
+    if (percent(c, 75))
+        pt_put16(frame + 26, standing(call, peer).identifier);
+    call->frame_octets = percent(c, 80) ? PEER_QUERY_OCTETS : 24 + below(c, 10);
+}
+
 static size_t draw_length(struct chance *c)
 {
     static const size_t lengths[] = { 0, 9, 10, 15, 16, 23, 24, 25, 26, 27, 28, 29, 30, 33, 34, 35, 60, 4095, 4096, 4097, 5000 };
@@ -59,10 +71,10 @@ static size_t draw_length(struct chance *c)
     return percent(c, 85) ? ONE_OF(c, lengths) : below(c, 200);
 }
 
-/* Half the frames are of the seven management subtypes that act, long enough; the others are of any kind and length. */
+/* Half the frames are of the eight management subtypes that act, long enough; the others are of any kind and length. */
 void draw_frame(struct chance *c, struct call *call, uint64_t peer)
 {
-    static const uint8_t acting[] = { 0, 1, 2, 3, 10, 11, 11, 12 }, categories[] = { 3, 4, 4, 5 };
+    static const uint8_t acting[] = { 0, 1, 2, 3, 10, 11, 11, 12, 13, 13 }, categories[] = { 3, 4, 4, 5, 8 };
     bool meant = percent(c, 60);
     unsigned type = meant ? MANAGEMENT : below(c, 4), subtype = meant ? ONE_OF(c, acting) : below(c, 16);
     uint8_t *frame = call->frame;
@@ -74,7 +86,9 @@ void draw_frame(struct chance *c, struct call *call, uint64_t peer)
     if (type == MANAGEMENT && subtype == PT_ACTION)
         frame[24] = ONE_OF(c, categories);
     call->frame_octets = draw_length(c);
-    if (meant) {
+    if (meant && subtype == PT_ACTION) {
+        draw_query(c, call, peer);
+    } else if (meant) {
         draw_body(c, frame, subtype, call->settings.role);
         call->frame_octets = RESPONSE_ELEMENTS + (subtype == PT_REASSOC_REQUEST ? 4 : 0);
         call->frame_octets += draw_elements(c, frame + call->frame_octets);
@@ -83,12 +97,12 @@ void draw_frame(struct chance *c, struct call *call, uint64_t peer)
 
 static void draw_primitive(struct chance *c, struct call *call)
 {
-    static const uint8_t of_role[2][7] = { { 2, 7, 8, 10, 3, 6, 9 }, { 1, 4, 5, 1, 3, 6, 9 } };
+    static const uint8_t of_role[2][8] = { { 2, 7, 8, 10, 11, 3, 6, 9 }, { 1, 4, 5, 1, 4, 3, 6, 9 } };
     static const uint16_t codes[] = { 0, 1, 2, 17, 256, 65535 };
 
-    call->primitive = of_role[call->settings.role == PEER_STATION][below(c, 7)];
+    call->primitive = of_role[call->settings.role == PEER_STATION][below(c, 8)];
     if (percent(c, 20))
-        call->primitive = (uint8_t)below(c, percent(c, 50) ? 12 : 256);
+        call->primitive = (uint8_t)below(c, percent(c, 50) ? 13 : 256);
     call->number = ONE_OF(c, codes);
     if (percent(c, 75))
         call->number = call->primitive == 10 || call->primitive == 3 || call->primitive == 6;
@@ -96,7 +110,7 @@ static void draw_primitive(struct chance *c, struct call *call)
 
 size_t draw_out(struct chance *c, enum call_kind kind)
 {
-    static const size_t lengths[] = { 0, 1, 26, 33, 34, 35, 255, 256, 257, 4200 };
+    static const size_t lengths[] = { 0, 1, 26, 33, 34, 36, 37, 38, 255, 256, 257, 4200 };
 
     if (percent(c, 4))
         return ONE_OF(c, lengths);
@@ -105,7 +119,7 @@ size_t draw_out(struct chance *c, enum call_kind kind)
 
 void draw_event(struct chance *c, struct call *call)
 {
-    static const uint16_t steps[] = { 1, 1, 1, 2, 5, 40, 1953, 1954, 65535, 0 };
+    static const uint16_t steps[] = { 1, 1, 1, 2, 5, 40, 201, 1000, 1953, 1954, 65535, 0 };
     uint64_t peer = draw_address(c, own_of(call));
     unsigned kind = below(c, 100);
 

@@ -1,9 +1,9 @@
-/* draw_table.c - settings and tables by chance: well formed, and with one thing spoilt. */
+/* draw_table.c - addresses and tables by chance: well formed, and with one thing spoilt. */
 #include "draw.h"
 
 #include <string.h>
 
-enum { HOLD = 8, LEFT = 12, STATE = 14, EXCHANGE = 15 }; /* offsets in a record's octets */
+enum { HOLD = 8, LEFT = 12, STATE = 14, EXCHANGE = 15, QUERY_LEFT = 18, QUERY = 20 }; /* offsets in a record's octets */
 
 uint64_t pool_address(unsigned number)
 {
@@ -19,67 +19,7 @@ uint64_t draw_address(struct chance *c, uint64_t own)
     return percent(c, 20) ? own : percent(c, 30) ? draw(c) >> 16 : ONE_OF(c, odd);
 }
 
-peer_settings draw_settings(struct chance *c, uint8_t role)
-{
-    static const uint16_t timeouts[] = { 1, 2, 3, 10, 100, 1000, 1954, 65534, 65535 };
-
-    return (peer_settings){ .own = { 2, 0, 0, 0, 0, 0x0a }, .authentication_timeout = ONE_OF(c, timeouts),
-                            .association_timeout = ONE_OF(c, timeouts), .role = role, .rsna = (uint8_t)below(c, 2),
-                            .edition = (uint8_t)(1 + below(c, 2)), .protection = (uint8_t)below(c, 2) };
-}
-
-void spoil_settings(struct chance *c, peer_settings *s)
-{
-    static const uint64_t owns[] = { 0, 1, 0xffffffffffffu, 0x0a0000000003u };
-    static const uint8_t odd[] = { 0, 3, 4, 128, 255 };
-
-    switch (below(c, 7)) {
-    case 0:
-        pt_put48(s->own, ONE_OF(c, owns));
-        break;
-    case 1:
-        s->authentication_timeout = 0;
-        break;
-    case 2:
-        s->association_timeout = 0;
-        break;
-    case 3:
-        s->role = ONE_OF(c, odd);
-        break;
-    case 4:
-        s->edition = ONE_OF(c, odd);
-        break;
-    case 5:
-        s->protection = (uint8_t)(2 + below(c, 254));
-        break;
-    default:
-        s->rsna = (uint8_t)(2 + below(c, 254));
-    }
-}
-
-uint64_t own_of(const struct call *call)
-{
-    return pt_get48(call->settings.own);
-}
-
-void lend_usual(struct call *call, struct chance *c)
-{
-    call->table_octets = PEER_TABLE_OCTETS;
-    call->settings_octets = percent(c, 25) ? PEER_SETTINGS_OCTETS_LEAST : PEER_SETTINGS_OCTETS;
-    call->answer_octets = PEER_ANSWER_OCTETS;
-}
-
-void draw_lengths(struct chance *c, struct call *call)
-{
-    static const size_t settings[] = { 0, 1, 8, 11, 12, 13, 14, 15, 16, 18, 24, 64 }, answers[] = { 0, 1, 12, 16, 23, 24, 25, 32, 64 };
-
-    if (percent(c, 60))
-        call->settings_octets = ONE_OF(c, settings);
-    if (percent(c, 60))
-        call->answer_octets = ONE_OF(c, answers);
-}
-
-static void draw_exchange(struct chance *c, const peer_settings *s, struct pt_record *r, bool *associating)
+static void draw_exchange(struct chance *c, const struct pt_settings *s, struct pt_record *r, bool *associating)
 {
     bool station = s->role == PEER_STATION;
 
@@ -95,14 +35,29 @@ static void draw_exchange(struct chance *c, const peer_settings *s, struct pt_re
     }
 }
 
+/* An identifier may stand in any record, a query or its mark at an AP in State 4, whatever the edition. */
+static void draw_query(struct chance *c, const struct pt_settings *s, struct pt_record *r)
+{
+    static const uint16_t identifiers[] = { 1, 2, 255, 256, 65534, 65535 };
+
+    if (percent(c, 50))
+        r->identifier = ONE_OF(c, identifiers);
+    if (s->role != PEER_AP || r->state != 4 || percent(c, 40))
+        return;
+    r->query = (uint8_t)(1 + below(c, 3));
+    if (r->query != PT_QUERY_TIMED_OUT)
+        r->query_left = percent(c, 30) ? s->query_maximum : 1 + below(c, s->query_maximum);
+}
+
 /* Addresses of the pool from a place drawn, so that none is there twice. */
-void draw_table(struct chance *c, const peer_settings *s, uint8_t *octets)
+void draw_table(struct chance *c, struct call *call)
 {
     static const unsigned crowds[] = { 3, 20, 60, 95, 100, 100 };
     static const uint32_t holds[] = { 1, 2, 50, 1953, 1954, 65535, 65536, 0x7fffffff, 0xffffffff };
+    struct pt_settings s = settings_of(&call->settings, call->settings_octets);
     struct pt_record table[PT_PLACES] = { { 0 } };
     unsigned crowd = ONE_OF(c, crowds), first = below(c, POOL);
-    bool joined = false, associating = false, station = s->role == PEER_STATION;
+    bool joined = false, associating = false, station = s.role == PEER_STATION;
 
     for (unsigned i = 0; i < PT_PLACES; i++) {
         struct pt_record *r = &table[i];
@@ -112,11 +67,35 @@ void draw_table(struct chance *c, const peer_settings *s, uint8_t *octets)
         r->address = pool_address((first + i * 7) % POOL);
         r->state = (uint8_t)(1 + below(c, station && joined ? 2 : 4));
         joined = joined || r->state >= 3;
-        draw_exchange(c, s, r, &associating);
+        draw_exchange(c, &s, r, &associating);
+        draw_query(c, &s, r);
         if (station && percent(c, 40))
             r->hold = ONE_OF(c, holds);
     }
-    octets_of(table, octets);
+    octets_of(table, call->table);
+}
+
+struct pt_record standing(const struct call *call, uint64_t address)
+{
+    struct pt_record table[PT_PLACES], none = { 0 };
+
+    table_of(call->table, table);
+    for (int i = 0; i < PT_PLACES; i++)
+        if (table[i].address == address)
+            return table[i];
+    return none;
+}
+
+/* The query's number or the time left of it, near what may stand there. */
+static void spoil_query(struct chance *c, const peer_settings *s, uint8_t *r)
+{
+    static const uint32_t numbers[] = { 0, 1, 2, 3, 4, 255, 256, 257, 0x10001, 0x1000002, 0xffffffff };
+    const uint16_t lefts[] = { 0, 1, s->query_maximum, (uint16_t)(s->query_maximum + 1), 1000, 1001, 65535 };
+
+    if (percent(c, 50))
+        pt_put32(r + QUERY, ONE_OF(c, numbers));
+    else
+        pt_put16(r + QUERY_LEFT, ONE_OF(c, lefts));
 }
 
 /* One field of one place, which may be a free one, gets a value that may not stand there; now and then it may after all. */
@@ -127,7 +106,7 @@ void spoil_table(struct chance *c, const peer_settings *s, uint8_t *octets)
     uint8_t *r = octets + PEER_RECORD_OCTETS * below(c, PT_PLACES), *other = octets + PEER_RECORD_OCTETS * below(c, PT_PLACES);
     uint64_t address = percent(c, 30) ? pt_get48(s->own) : ONE_OF(c, odd);
 
-    switch (below(c, 8)) {
+    switch (below(c, 10)) {
     case 0:
         for (int i = 0; i < 8; i++)
             r[i] = (uint8_t)(address >> (8 * i));
@@ -149,6 +128,10 @@ void spoil_table(struct chance *c, const peer_settings *s, uint8_t *octets)
         break;
     case 6:
         memcpy(r, other, PEER_RECORD_OCTETS); /* a whole record twice, or freed */
+        break;
+    case 7:
+    case 8:
+        spoil_query(c, s, r);
         break;
     default:
         octets[below(c, PEER_TABLE_OCTETS)] ^= (uint8_t)(1u << below(c, 8));

@@ -3,18 +3,20 @@
 
 #include <string.h>
 
-enum { PHASES = 3, EXCHANGES = 10 };
+enum { PHASES = 3, EXCHANGES = 10, QUERIES = 4 };
 
-/* A record's octets: address 8, hold 4, left 2, state 1, exchange 1, little-endian. */
+/* A record's octets: address 8, hold 4, left 2, state 1, exchange 1, identifier 2, what is left of the query 2, query 4, little-endian. */
 static void octets_of_record(const struct pt_record *r, uint8_t *p)
 {
     for (int i = 0; i < 8; i++)
         p[i] = (uint8_t)(r->address >> (8 * i));
-    for (int i = 0; i < 4; i++)
-        p[8 + i] = (uint8_t)(r->hold >> (8 * i));
+    pt_put32(p + 8, r->hold);
     pt_put16(p + 12, (uint16_t)r->left);
     p[14] = r->state;
     p[15] = (uint8_t)(r->phase == PT_NONE ? 0 : (r->phase - 1) * PHASES + r->kind);
+    pt_put16(p + 16, r->identifier);
+    pt_put16(p + 18, (uint16_t)r->query_left);
+    pt_put32(p + 20, r->query);
 }
 
 static void record_of(const uint8_t *p, struct pt_record *r)
@@ -27,6 +29,9 @@ static void record_of(const uint8_t *p, struct pt_record *r)
     r->state = p[14];
     r->phase = (uint8_t)(exchange == 0 ? PT_NONE : 1 + (exchange - 1) / PHASES);
     r->kind = (uint8_t)(exchange == 0 ? PT_NO_KIND : 1 + (exchange - 1) % PHASES);
+    r->identifier = pt_get16(p + 16);
+    r->query_left = pt_get16(p + 18);
+    r->query = (uint8_t)pt_get32(p + 20);
 }
 
 void octets_of(const struct pt_record *table, uint8_t *octets)
@@ -40,25 +45,29 @@ bool table_of(const uint8_t *octets, struct pt_record *table)
     bool held = true;
 
     for (int i = 0; i < PT_PLACES; i++) {
-        held = held && octets[PEER_RECORD_OCTETS * i + 15] < EXCHANGES;
-        record_of(octets + PEER_RECORD_OCTETS * i, &table[i]);
+        const uint8_t *p = octets + PEER_RECORD_OCTETS * i;
+
+        held = held && p[15] < EXCHANGES && pt_get32(p + 20) < QUERIES;
+        record_of(p, &table[i]);
     }
     return held;
 }
 
 bool settings_length(size_t octets)
 {
-    return octets == PEER_SETTINGS_OCTETS || octets == PEER_SETTINGS_OCTETS_LEAST;
+    return octets == PEER_SETTINGS_OCTETS || octets == PEER_SETTINGS_OCTETS_EDITION || octets == PEER_SETTINGS_OCTETS_LEAST;
 }
 
 struct pt_settings settings_of(const peer_settings *settings, size_t octets)
 {
-    bool whole = octets >= PEER_SETTINGS_OCTETS;
+    bool edition = octets >= PEER_SETTINGS_OCTETS_EDITION, query = octets >= PEER_SETTINGS_OCTETS;
 
     return (struct pt_settings){
         .own = pt_get48(settings->own), .role = settings->role, .rsna = settings->rsna,
         .auth_timeout = settings->authentication_timeout, .assoc_timeout = settings->association_timeout,
-        .edition = whole ? settings->edition : PEER_EDITION_1, .protection = whole ? settings->protection : 0,
+        .edition = edition ? settings->edition : PEER_EDITION_1, .protection = edition ? settings->protection : 0,
+        .query_retry = query ? settings->query_retry : PEER_QUERY_RETRY_USUAL,
+        .query_maximum = query ? settings->query_maximum : PEER_QUERY_MAXIMUM_USUAL,
     };
 }
 

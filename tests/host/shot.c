@@ -19,7 +19,7 @@ static void random_table(struct chance *c, struct call *call)
 
 static void other_length(struct chance *c, struct call *call)
 {
-    static const size_t lengths[] = { 0, 1, 15, 16, 496, 511, 513, 528, 1023, 1024 };
+    static const size_t lengths[] = { 0, 1, 23, 24, 512, 744, 767, 769, 792, 1023, 1024 };
 
     call->table_kind = TABLE_OF_OTHER_LENGTH;
     call->table_octets = ONE_OF(c, lengths);
@@ -36,7 +36,7 @@ void run_shot(unsigned long number, struct chance *c)
     call.table_kind = TABLE_DRAWN;
     call.source = "the single shots";
     call.index = number + 1;
-    draw_table(c, &call.settings, call.table);
+    draw_table(c, &call);
     if (sort < 35) {
         call.table_kind = TABLE_SPOILT;
         spoil_table(c, &call.settings, call.table);

@@ -14,7 +14,7 @@ static void fresh(struct chance *c, enum call_kind kind, uint8_t role, const cha
     lend_usual(&call, c);
     call.table_kind = TABLE_DRAWN;
     call.source = source;
-    draw_table(c, &call.settings, call.table);
+    draw_table(c, &call);
     do
         draw_event(c, &call);
     while (call.kind != kind);
@@ -43,9 +43,31 @@ static void sweep_octet(struct chance *c, enum call_kind kind, uint8_t role)
             }
 }
 
+/* The query's number, each of its octets, mostly in State 4; then each number and state with times left at their limits. */
+static void sweep_query(struct chance *c, enum call_kind kind, uint8_t role)
+{
+    for (unsigned i = 0; i < 4 * 64 + 4 * 4 * 6; i++) {
+        fresh(c, kind, role, "the sweep of queries");
+        uint8_t *record = call.table + PEER_RECORD_OCTETS * below(c, PT_PLACES);
+        uint32_t most = settings_of(&call.settings, call.settings_octets).query_maximum;
+        const uint32_t lefts[] = { 0, 1, most - 1, most, most + 1, 65535 };
+
+        call.table_kind = TABLE_SPOILT;
+        if (i < 4 * 64) {
+            record[14] = percent(c, 70) ? PEER_STATE_4 : record[14];
+            record[20 + i % 4] = (uint8_t)(i / 4);
+        } else {
+            record[14] = (uint8_t)(1 + i % 4);
+            pt_put16(record + 18, (uint16_t)lefts[i / 16 % 6]);
+            pt_put32(record + 20, i / 4 % 4);
+        }
+        made(c, i);
+    }
+}
+
 static void sweep_lengths(struct chance *c, enum call_kind kind, uint8_t role)
 {
-    static const size_t tables[] = { 0, 1, 16, 511, 512, 513, 1024 }, outs[] = { 0, 33, 34, 255, 256 };
+    static const size_t tables[] = { 0, 24, 512, 767, 768, 769, 1024 }, outs[] = { 0, 34, 36, 37, 255, 256 };
 
     for (size_t out = 0; out <= 260; out++)
         if (out <= 40 || out >= 250) {
@@ -53,11 +75,11 @@ static void sweep_lengths(struct chance *c, enum call_kind kind, uint8_t role)
             call.out_octets = out;
             made(c, out);
         }
-    for (size_t i = 0; i < 35; i++) {
+    for (size_t i = 0; i < 42; i++) {
         fresh(c, kind, role, "the sweep of table lengths");
-        call.table_octets = tables[i / 5];
+        call.table_octets = tables[i / 6];
         call.table_kind = call.table_octets == PEER_TABLE_OCTETS ? TABLE_DRAWN : TABLE_OF_OTHER_LENGTH;
-        call.out_octets = outs[i % 5];
+        call.out_octets = outs[i % 6];
         made(c, call.table_octets);
     }
 }
@@ -121,11 +143,13 @@ static void sweep_settings(struct chance *c, enum call_kind kind, uint8_t role)
         *octets[i / 128] = (uint8_t)(value < 8 ? value : value * 2);
         made(c, i);
     }
-    for (unsigned i = 0; i < 9 + 60; i++) {
-        fresh(c, kind, role, "the sweep of timeouts and own addresses");
+    for (unsigned i = 0; i < 81 + 60; i++) {
+        fresh(c, kind, role, "the sweep of times and own addresses");
         call.settings.authentication_timeout = timeouts[i % 3];
         call.settings.association_timeout = timeouts[i / 3 % 3];
-        if (i >= 9)
+        call.settings.query_retry = timeouts[i / 9 % 3];
+        call.settings.query_maximum = timeouts[i / 27 % 3];
+        if (i >= 81)
             spoil_settings(c, &call.settings);
         made(c, i);
     }
@@ -147,11 +171,31 @@ static void sweep_timeouts(struct chance *c)
     }
 }
 
+/* The same of an AP's queries: some time out, some are due again, some go on. */
+static void sweep_queries_at_once(struct chance *c)
+{
+    for (unsigned most = 0; most <= PT_PLACES; most++) {
+        struct pt_record table[PT_PLACES] = { { 0 } };
+
+        fresh(c, CALL_PASS, PEER_AP, "the sweep of queries at once");
+        call.settings.query_retry = 40;
+        call.settings.query_maximum = 100;
+        call.settings_octets = PEER_SETTINGS_OCTETS;
+        for (unsigned i = 0; i < most; i++)
+            table[i] = (struct pt_record){ .address = pool_address(i), .state = 4, .identifier = (uint16_t)i, .query_left = 1 + 3 * i,
+                                           .query = i % 2 ? PT_QUERY_RUNS : PT_QUERY_DUE };
+        octets_of(table, call.table);
+        call.number = (uint16_t)(most % 2 ? PT_PLACES : 100);
+        made(c, most);
+    }
+}
+
 void run_sweeps(struct chance *c)
 {
     for (uint8_t role = PEER_AP; role <= PEER_STATION; role++) {
         for (int kind = 0; kind < CALL_KINDS; kind++) {
             sweep_octet(c, (enum call_kind)kind, role);
+            sweep_query(c, (enum call_kind)kind, role);
             sweep_lengths(c, (enum call_kind)kind, role);
             sweep_slices(c, (enum call_kind)kind, role);
             sweep_settings(c, (enum call_kind)kind, role);
@@ -160,4 +204,5 @@ void run_sweeps(struct chance *c)
         sweep_numbers(c, role);
     }
     sweep_timeouts(c);
+    sweep_queries_at_once(c);
 }

@@ -1,11 +1,11 @@
-/* tally.c - counts by call, table, refusal, verdict, notice, word to the distribution system, state, timeouts and rejections. */
+/* tally.c - counts by call, table, refusal, verdict, notice, word to the distribution system, state, timeouts, rejections and frames written. */
 #include "tally.h"
 
 #include <stdio.h>
 
 enum { MOST = 33 };
 
-enum field { CALLS, TABLES, REFUSALS, VERDICTS, NOTICES, DS_WORDS, STATES, TIMEOUTS, REJECTIONS, FIELDS };
+enum field { CALLS, TABLES, REFUSALS, VERDICTS, NOTICES, DS_WORDS, STATES, TIMEOUTS, KINDS, REJECTIONS, FRAMES, FIELDS };
 
 /* What each field is called and how many values it has, all of which must be seen; refusals also for each call, below. */
 static const struct {
@@ -20,7 +20,9 @@ static const struct {
     [DS_WORDS] = { "distribution system", 3 },
     [STATES] = { "state", 5 },
     [TIMEOUTS] = { "timeouts of a clock step", 33 },
+    [KINDS] = { "kind of a timeout, from 1 (three exchanges, query due again, query timed out)", 5 },
     [REJECTIONS] = { "rejection (settings of 12, edition 1, edition 2 to State 2 and 3, with protection to State 2, 3 and 4)", 7 },
+    [FRAMES] = { "frame written (four of association, disassociation, authentication, deauthentication, query; rejection by a query)", 9 },
 };
 
 /* The refusals that each call can give, as bits. */
@@ -45,7 +47,22 @@ static unsigned rejection(const struct call *call, uint8_t state)
     return (s->protection ? 4u : 2u) + state - PEER_STATE_2;
 }
 
-void tally_add(const struct call *call, const struct pt_answer *answer)
+static void add_timeouts(const uint8_t *out, unsigned count)
+{
+    counts[TIMEOUTS][count]++;
+    for (unsigned i = 0; i < count; i++)
+        counts[KINDS][out[PEER_TIMEOUT_OCTETS * i + 1] - PEER_KIND_AUTHENTICATION]++;
+}
+
+/* By its subtype, 0 to 3 and 10 to 13, or by the length that only a rejection by a query has. */
+static unsigned frame_written(const uint8_t *out, unsigned written)
+{
+    unsigned subtype = out[0] >> 4;
+
+    return written == PEER_OUT_LEAST ? 8 : subtype < 4 ? subtype : subtype - 6;
+}
+
+void tally_add(const struct call *call, const struct pt_answer *answer, const uint8_t *out)
 {
     total++;
     counts[CALLS][call->kind]++;
@@ -57,7 +74,9 @@ void tally_add(const struct call *call, const struct pt_answer *answer)
     counts[STATES][answer->state]++;
     refusals[call->kind][answer->refusal]++;
     if (call->kind == CALL_PASS && answer->refusal == PT_DONE)
-        counts[TIMEOUTS][answer->written / PEER_TIMEOUT_OCTETS]++;
+        add_timeouts(out, answer->written / PEER_TIMEOUT_OCTETS);
+    else if (answer->written > 0)
+        counts[FRAMES][frame_written(out, answer->written)]++;
     if (call->kind == CALL_ASK && answer->refusal == PT_DONE && call->number != PEER_STATUS_SUCCESS &&
         (call->primitive == PEER_ASSOCIATE_RESPONSE || call->primitive == PEER_REASSOCIATE_RESPONSE))
         counts[REJECTIONS][rejection(call, answer->state)]++;

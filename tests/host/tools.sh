@@ -3,7 +3,7 @@
 
 warnings="-std=c11 -Wall -Wextra -Wpedantic -Wconversion -Wshadow -Werror"
 # The independent program, all but its own main.
-independent="tests/independent/ask.c tests/independent/elements.c tests/independent/receive.c tests/independent/table.c"
+independent=$(find tests/independent -name '*.c' ! -name main.c | sort | tr '\n' ' ')
 case $(uname -m) in
 x86_64) native=x86-64 ;;
 aarch64) native=aarch64 ;;

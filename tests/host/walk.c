@@ -26,6 +26,27 @@ static void next_primitive(struct call *call, uint8_t primitive, uint16_t code)
     call->number = code;
 }
 
+/* A query frame: a response of the peer's own identifier, most often, or a request. */
+static void next_query(struct chance *c, struct call *call, uint8_t action, const struct pt_record *r)
+{
+    next_frame(c, call, MANAGEMENT, PT_ACTION, PEER_QUERY_OCTETS);
+    call->frame[24] = PEER_CATEGORY_SA_QUERY;
+    call->frame[25] = action;
+    pt_put16(call->frame + 26, (uint16_t)(percent(c, 80) ? r->identifier : r->identifier + 1));
+}
+
+/* What may come of a query that runs; false where the peer does something else. */
+static bool on_query(struct chance *c, struct call *call, const struct pt_record *r)
+{
+    if (r->query == PT_QUERY_DUE && percent(c, 40))
+        next_primitive(call, PEER_SA_QUERY_REQUEST, 0);
+    else if (r->query == PT_QUERY_RUNS && percent(c, 30))
+        next_query(c, call, PEER_ACTION_QUERY_RESPONSE, r);
+    else
+        return false;
+    return true;
+}
+
 static void on_at_ap(struct chance *c, struct call *call, const struct pt_record *r)
 {
     static const uint8_t answers[] = { 0, PEER_AUTHENTICATE_RESPONSE, PEER_ASSOCIATE_RESPONSE, PEER_REASSOCIATE_RESPONSE };
@@ -33,6 +54,8 @@ static void on_at_ap(struct chance *c, struct call *call, const struct pt_record
 
     if (r->phase == PT_AWAITING)
         next_primitive(call, PEER_TRANSMIT_REPORT, PEER_ACKNOWLEDGED);
+    else if (on_query(c, call, r))
+        return;
     else if (r->phase == PT_ASKED)
         next_primitive(call, answers[r->kind], percent(c, 75) ? PEER_STATUS_SUCCESS : PEER_STATUS_TRY_LATER);
     else if (r->state < 2)
@@ -57,20 +80,10 @@ static void on_at_station(struct chance *c, struct call *call, const struct pt_r
         next_primitive(call, percent(c, 50) ? PEER_ASSOCIATE_REQUEST : PEER_REASSOCIATE_REQUEST, 0);
     else if (r->state == 3)
         next_primitive(call, PEER_SET_PROTECTION, 0);
+    else if (percent(c, 30))
+        next_query(c, call, PEER_ACTION_QUERY_REQUEST, r);
     else
         next_frame(c, call, DATA, below(c, 13), 40);
-}
-
-/* The peer's record as it stands, or zeros. */
-static struct pt_record record_of(const struct call *call)
-{
-    struct pt_record table[PT_PLACES], none = { 0 };
-
-    table_of(call->table, table);
-    for (int i = 0; i < PT_PLACES; i++)
-        if (table[i].address == call->address)
-            return table[i];
-    return none;
 }
 
 static void step(struct chance *c, struct call *call, unsigned peers)
@@ -84,7 +97,7 @@ static void step(struct chance *c, struct call *call, unsigned peers)
         return;
     }
     call->address = pool_address(below(c, peers));
-    r = record_of(call);
+    r = standing(call, call->address);
     if (call->settings.role == PEER_AP)
         on_at_ap(c, call, &r);
     else
@@ -104,7 +117,7 @@ void run_walk(unsigned long number, unsigned long calls, struct chance *c)
     call.table_kind = TABLE_WALK;
     call.source = "the walks";
     if (percent(c, 25))
-        draw_table(c, &call.settings, call.table);
+        draw_table(c, &call);
     for (unsigned long i = 0; i < calls; i++) {
         call.index = number * calls + i + 1;
         step(c, &call, peers);

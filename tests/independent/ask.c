@@ -4,7 +4,7 @@
 enum {
     AUTHENTICATE_REQUEST = 1, AUTHENTICATE_RESPONSE = 2, DEAUTHENTICATE = 3, ASSOCIATE_REQUEST = 4,
     REASSOCIATE_REQUEST = 5, DISASSOCIATE = 6, ASSOCIATE_RESPONSE = 7, REASSOCIATE_RESPONSE = 8,
-    SETPROTECTION = 9, TRANSMIT_REPORT = 10, PRIMITIVES = 10
+    SETPROTECTION = 9, TRANSMIT_REPORT = 10, SA_QUERY = 11, PRIMITIVES = 11
 };
 
 enum { STATUS_UNSPECIFIED = 1 };
@@ -27,6 +27,7 @@ static const struct {
     [REASSOCIATE_RESPONSE] = { PT_AP, ANY },
     [SETPROTECTION] = { 0, ZERO },
     [TRANSMIT_REPORT] = { PT_AP, ZERO_OR_ONE },
+    [SA_QUERY] = { PT_AP, ZERO },
 };
 
 static bool code_allowed(uint8_t codes, uint16_t code)
@@ -84,6 +85,8 @@ static enum pt_refusal refusal(const struct pt_step *t, unsigned primitive)
         return r && r->state >= 3 ? PT_DONE : PT_NO_MATCH;
     case TRANSMIT_REPORT:
         return r && r->phase == PT_AWAITING ? PT_DONE : PT_NO_MATCH;
+    case SA_QUERY:
+        return r && r->query == PT_QUERY_DUE ? PT_DONE : PT_NO_MATCH;
     default:
         return PT_DONE;
     }
@@ -178,6 +181,14 @@ static void associate_response(struct pt_step *t, uint8_t kind, uint16_t status)
     pt_move(t, rejected_state(t->s, t->record->state));
 }
 
+/* 10: acknowledged, associated; not acknowledged, state kept; the exchange ends. */
+static void transmit_report(struct pt_step *t, uint16_t acknowledged)
+{
+    if (acknowledged == 1)
+        pt_move(t, t->s->rsna ? 3 : 4);
+    end_exchange(t);
+}
+
 static void act(struct pt_step *t, unsigned primitive, uint16_t code)
 {
     switch (primitive) {
@@ -204,10 +215,11 @@ static void act(struct pt_step *t, unsigned primitive, uint16_t code)
     case SETPROTECTION: /* 9: State 3 to 4; State 4 kept */
         pt_move(t, 4);
         break;
-    default: /* 10: acknowledged, associated; not acknowledged, state kept; the exchange ends */
-        if (code == 1)
-            pt_move(t, t->s->rsna ? 3 : 4);
-        end_exchange(t);
+    case TRANSMIT_REPORT:
+        transmit_report(t, code);
+        break;
+    default: /* 11 */
+        pt_query_ask(t);
     }
 }
 

@@ -2,7 +2,6 @@
 #include "rules.h"
 
 enum { ELEMENTS = 30 }; /* where the elements begin, behind capability, status and AID */
-enum { TIMEOUT_INTERVAL = 56, COMEBACK = 3 };
 
 /* The elements, each an id, a length and so many octets of contents, end with the frame: the walk
    comes to its end exactly. An element that would pass the end breaks them, and so does one octet
@@ -21,7 +20,7 @@ bool pt_elements_whole(const uint8_t *frame, size_t len)
 uint32_t pt_comeback(const uint8_t *frame, size_t len)
 {
     for (size_t at = ELEMENTS; at < len; at += 2u + frame[at + 1])
-        if (frame[at] == TIMEOUT_INTERVAL && frame[at + 1] == 5 && frame[at + 2] == COMEBACK)
+        if (frame[at] == PT_TIMEOUT_INTERVAL && frame[at + 1] == 5 && frame[at + 2] == PT_COMEBACK)
             return pt_get32(frame + at + 3);
     return PT_HOLD_USUAL;
 }

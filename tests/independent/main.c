@@ -13,7 +13,8 @@
 #include <string.h>
 
 enum { HEADER = 5, SCRATCH = 256, OUTPUT_BUFFER = 1 << 16 };
-enum { SETTINGS_FIRST = 12, SETTINGS_EDITIONS = 14 }; /* lengths, without and with the edition */
+/* Lengths: the first settings, with edition and protection behind them, with a query's times too. */
+enum { SETTINGS_FIRST = 12, SETTINGS_EDITIONS = 14, SETTINGS_QUERY = 18 };
 enum record_kind { SETTINGS = 0, PRIMITIVE = 1, FRAME = 2, CLOCK = 3 };
 enum got { GOT_RECORD, GOT_END, GOT_FAULT, GOT_READ_ERROR };
 
@@ -30,12 +31,12 @@ struct bench {
     uint64_t events;
 };
 
-/* The length each kind of record must have: 12 or 14, 9, a frame of 0 to 4,096, 2. */
+/* The length each kind of record must have: 12, 14 or 18, 9, a frame of 0 to 4,096, 2. */
 static bool length_fits(unsigned kind, size_t length)
 {
     switch (kind) {
     case SETTINGS:
-        return length == SETTINGS_FIRST || length == SETTINGS_EDITIONS;
+        return length == SETTINGS_FIRST || length == SETTINGS_EDITIONS || length == SETTINGS_QUERY;
     case PRIMITIVE:
         return length == 9;
     case FRAME:
@@ -65,8 +66,9 @@ static enum got read_record(struct input *in, bool first)
     return GOT_RECORD;
 }
 
-/* Role, own address, RSNA, authentication and association timeouts, then edition and protection:
-   1 and 0 where the record is the shorter one. Out of range is no fault here. */
+/* Role, own address, RSNA, authentication and association timeouts, then edition and protection, 1
+   and 0 where the record does not have them, then a query's retry and maximum times, 201 and 1,000
+   where it does not. Out of range is no fault here. */
 static void take_settings(struct pt_settings *s, const uint8_t *body, size_t length)
 {
     s->role = body[0];
@@ -76,6 +78,8 @@ static void take_settings(struct pt_settings *s, const uint8_t *body, size_t len
     s->assoc_timeout = pt_get16(body + 10);
     s->edition = length < SETTINGS_EDITIONS ? 1 : body[12];
     s->protection = length < SETTINGS_EDITIONS ? 0 : body[13];
+    s->query_retry = length < SETTINGS_QUERY ? PT_QUERY_RETRY_USUAL : pt_get16(body + 14);
+    s->query_maximum = length < SETTINGS_QUERY ? PT_QUERY_MAXIMUM_USUAL : pt_get16(body + 16);
 }
 
 /* One event, with 256 zero bytes of scratch. */
@@ -118,7 +122,8 @@ static void print_address(uint64_t address)
     print_octets(octets, sizeof octets);
 }
 
-/* The trace: octets written, the current AP of a reassociation indication, places not free. */
+/* The trace: octets written, the current AP of a reassociation indication, places not free, each
+   with its query where there is or was one. */
 static void print_trace(const struct bench *b, const struct pt_answer *a)
 {
     if (a->written > 0) {
@@ -140,6 +145,9 @@ static void print_trace(const struct bench *b, const struct pt_answer *a)
         printf("  place %d ", i);
         print_address(r->address);
         printf(" %u %u %" PRIu32 " %" PRIu32 "\n", (unsigned)r->state, exchange, r->left, r->hold);
+        if (r->identifier != 0 || r->query != PT_NO_QUERY)
+            printf("  query %d %u %u %" PRIu32 "\n", i, (unsigned)r->identifier,
+                   (unsigned)r->query, r->query_left);
     }
 }
 

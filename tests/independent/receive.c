@@ -1,38 +1,9 @@
-/* receive.c - a received frame: its class, the eight steps of the rules, and what each frame does. */
+/* receive.c - a received frame: the eight steps of the rules, and what each frame does. */
 #include "rules.h"
 
 enum { MANAGEMENT = 0, CONTROL = 1, CTS = 12, ACK = 13 };
-enum { PROTECTED = 0x40, CATEGORY = 24, PUBLIC = 4 }; /* Protected is bit 14 of Frame Control */
 enum { REASON_NOT_AUTHENTICATED = 6, REASON_NOT_ASSOCIATED = 7 };
 enum { STATUS_UNSPECIFIED = 1, STATUS_ALGORITHM = 13, STATUS_FULL = 17 };
-
-/* The one fixed list of classes, [type][subtype]; 0 is no class. */
-static const uint8_t classes[4][16] = {
-    { 2, 2, 2, 2, 1, 1, 0, 0, 1, 1, 2, 1, 1, 3, 3, 0 }, /* management */
-    { 0, 0, 0, 0, 0, 0, 0, 0, 3, 3, 3, 1, 1, 1, 1, 1 }, /* control */
-    { 3, 3, 3, 3, 3, 3, 3, 3, 3, 3, 3, 3, 3, 0, 3, 3 }, /* data */
-    { 0 },                                              /* type 3: none */
-};
-
-/* Least lengths, [type][subtype]: CTS and ACK 10, other control 16, data and management 24, but
-   more for the management frames with fixed fields. Frames without a class never ask. */
-static const uint8_t least[3][16] = {
-    { 28, 30, 34, 30, 24, 24, 24, 24, 24, 24, 26, 30, 26, 24, 24, 24 },
-    { 16, 16, 16, 16, 16, 16, 16, 16, 16, 16, 16, 16, 10, 10, 16, 16 },
-    { 24, 24, 24, 24, 24, 24, 24, 24, 24, 24, 24, 24, 24, 24, 24, 24 },
-};
-
-/* The class of a version 0 frame: by type and subtype, but an unprotected Action frame that has a
-   category, and category 4, is a Public Action: class 1. */
-static unsigned class_of(const uint8_t *frame, size_t len)
-{
-    unsigned type = frame[0] >> 2 & 3, subtype = frame[0] >> 4;
-
-    if (type == MANAGEMENT && subtype == PT_ACTION && (frame[1] & PROTECTED) == 0 &&
-        len > CATEGORY && frame[CATEGORY] == PUBLIC)
-        return 1;
-    return classes[type][subtype];
-}
 
 /* The kind of exchange that a (re)association request or response belongs to. */
 static uint8_t kind_of(unsigned subtype)
@@ -125,11 +96,18 @@ static void disassociation(struct pt_step *t, uint16_t reason)
 }
 
 /* (Re)association request at an AP: it is asked, whatever was under way. A reassociation's
-   indication carries the current AP, octets 28 to 33, as they come. */
+   indication carries the current AP, octets 28 to 33, as they come. One that may be forged is
+   denied first, with a query; one that passes uses up the mark of a query that timed out. */
 static void association_request(struct pt_step *t, uint8_t kind, const uint8_t *frame)
 {
     if (t->s->role != PT_AP)
         return;
+    if (pt_query_denies(t)) {
+        pt_query_deny(t, kind);
+        return;
+    }
+    if (t->record->query == PT_QUERY_TIMED_OUT)
+        pt_query_end(t->record);
     pt_exchange(t->record, PT_ASKED, kind, 0);
     notify(t, kind * 2u + 1, 0);
     if (kind == PT_REASSOCIATION)
@@ -184,6 +162,9 @@ static void act(struct pt_step *t, unsigned subtype, const uint8_t *frame, size_
     case PT_DEAUTH:
         deauthentication(t, pt_get16(body));
         break;
+    case PT_ACTION:
+        pt_query_heard(t, frame, len);
+        break;
     default:
         break;
     }
@@ -193,7 +174,7 @@ static void act(struct pt_step *t, unsigned subtype, const uint8_t *frame, size_
 static struct pt_answer judge(struct pt_step *t, bool group, const uint8_t *frame, size_t len)
 {
     unsigned type = frame[0] >> 2 & 3, subtype = frame[0] >> 4;
-    unsigned class = class_of(frame, len);
+    unsigned class = pt_class_of(frame, len);
     unsigned state = t->record ? t->record->state : 1; /* no record counts as State 1 */
     bool management = type == MANAGEMENT;
 
@@ -227,9 +208,9 @@ struct pt_answer pt_receive(const struct pt_settings *s, struct pt_record *table
         return pt_refuse(PT_BAD_INPUT);
 
     unsigned type = frame[0] >> 2 & 3, subtype = frame[0] >> 4;
-    if ((frame[0] & 3) != 0 || classes[type][subtype] == 0)
+    if ((frame[0] & 3) != 0 || pt_class_of(frame, frame_len) == 0)
         return (struct pt_answer){ .verdict = PT_DISCARD };
-    if (frame_len < least[type][subtype])
+    if (frame_len < pt_least_length(frame[0]))
         return pt_refuse(PT_BAD_INPUT);
 
     uint64_t to = pt_get48(frame + 4);

@@ -10,15 +10,18 @@
 enum {
     PT_PLACES = 32,
     PT_FRAME_MAX = 4096,   /* longest frame taken */
-    PT_OUT_LEAST = 34,     /* least output buffer of a frame or primitive */
+    PT_OUT_LEAST = 37,     /* least output buffer of a frame or primitive */
     PT_CLOCK_OUT_LEAST = 256, /* least output buffer of a clock step */
     PT_TIME_MAX = 65535,   /* largest timeout, and largest time left of an exchange */
-    PT_HOLD_USUAL = 1954   /* the hold of 2 s, rounded up */
+    PT_HOLD_USUAL = 1954,  /* the hold of 2 s, rounded up */
+    PT_QUERY_RETRY_USUAL = 201, PT_QUERY_MAXIMUM_USUAL = 1000
 };
 
 enum pt_role { PT_AP = 1, PT_STATION = 2 };
 enum pt_phase { PT_NONE = 0, PT_ASKED = 1, PT_AWAITING = 2, PT_SENT = 3 };
 enum pt_kind { PT_NO_KIND = 0, PT_AUTHENTICATION = 1, PT_ASSOCIATION = 2, PT_REASSOCIATION = 3 };
+/* An SA Query: none, running with its request sent, running with a request due, timed out. */
+enum pt_query { PT_NO_QUERY = 0, PT_QUERY_RUNS = 1, PT_QUERY_DUE = 2, PT_QUERY_TIMED_OUT = 3 };
 enum pt_verdict { PT_NO_VERDICT = 0, PT_ADMIT = 1, PT_DISCARD = 2 };
 enum pt_ds { PT_DS_SILENT = 0, PT_DS_JOINED = 1, PT_DS_LEFT = 2 };
 
@@ -43,6 +46,11 @@ enum pt_subtype {
     PT_REASSOC_RESPONSE = 3, PT_DISASSOC = 10, PT_AUTH = 11, PT_DEAUTH = 12, PT_ACTION = 13
 };
 
+/* SA Query actions, the octet behind category 8. */
+enum pt_query_action { PT_QUERY_REQUEST = 0, PT_QUERY_RESPONSE = 1 };
+enum { PT_CATEGORY = 24, PT_CATEGORY_PUBLIC = 4, PT_CATEGORY_SA_QUERY = 8 };
+enum { PT_TIMEOUT_INTERVAL = 56, PT_COMEBACK = 3 }; /* an element's id, and its type */
+
 /* An address is six octets as a little-endian number; 2^48 and above is invalid. */
 struct pt_settings {
     uint64_t own;
@@ -52,6 +60,8 @@ struct pt_settings {
     uint8_t rsna;
     uint8_t edition;    /* 1 or 2: which rule a rejected (re)association follows at an AP */
     uint8_t protection; /* management frames are protected; edition 1 does not look at it */
+    uint32_t query_retry;   /* an SA Query's request is due at its start and each time this passes */
+    uint32_t query_maximum; /* from a query's start until it times out */
 };
 
 /* One place of the table. A free place is all zero. */
@@ -62,6 +72,9 @@ struct pt_record {
     uint8_t state;
     uint8_t phase;
     uint8_t kind;
+    uint16_t identifier; /* of the last SA Query begun; the first of a record is 1 */
+    uint8_t query;
+    uint32_t query_left; /* of a query that runs */
 };
 
 /* What a call answers. A refusal has every other field zero. */
@@ -107,6 +120,10 @@ struct pt_step {
     struct pt_answer a;
 };
 
+/* The class of a version 0 frame, 0 for none, and the least length of one that has a class. */
+unsigned pt_class_of(const uint8_t *frame, size_t len);
+unsigned pt_least_length(uint8_t first);
+
 /* Checks settings and table, every clause, and looks for `peer` on the way. */
 bool pt_look(const struct pt_settings *s, const struct pt_record *table, uint64_t peer,
              struct pt_view *view);
@@ -117,11 +134,22 @@ void pt_move(struct pt_step *t, uint8_t state);
 void pt_new_record(struct pt_step *t);
 void pt_exchange(struct pt_record *r, enum pt_phase phase, uint8_t kind, uint32_t left);
 
+/* An SA Query (query.c). */
+bool pt_query_fits(const struct pt_settings *s, const struct pt_record *r);
+void pt_query_end(struct pt_record *r);
+bool pt_query_denies(const struct pt_step *t);
+void pt_query_deny(struct pt_step *t, uint8_t kind);
+void pt_query_ask(struct pt_step *t);
+void pt_query_heard(struct pt_step *t, const uint8_t *frame, size_t len);
+uint8_t pt_query_age(const struct pt_settings *s, struct pt_record *r, uint32_t step);
+
 /* The frames written; each sets the number of octets written. */
 void pt_write_auth(struct pt_step *t, uint16_t algorithm, uint16_t transaction, uint16_t status);
 void pt_write_request(struct pt_step *t, uint8_t kind, uint64_t current);
 void pt_write_response(struct pt_step *t, uint8_t kind, uint16_t status, uint16_t aid);
+void pt_write_comeback(struct pt_step *t, uint8_t kind, uint16_t status, uint32_t value);
 void pt_write_reason(struct pt_step *t, enum pt_subtype subtype, uint16_t reason);
+void pt_write_query(struct pt_step *t, enum pt_query_action action, uint16_t identifier);
 
 /* The elements of a (re)association response of 30 octets or more; a comeback is of whole ones. */
 bool pt_elements_whole(const uint8_t *frame, size_t len);
@@ -157,6 +185,12 @@ static inline void pt_put16(uint8_t *p, uint16_t n)
 {
     p[0] = (uint8_t)n;
     p[1] = (uint8_t)(n >> 8);
+}
+
+static inline void pt_put32(uint8_t *p, uint32_t n)
+{
+    pt_put16(p, (uint16_t)n);
+    pt_put16(p + 2, (uint16_t)(n >> 16));
 }
 
 static inline void pt_put48(uint8_t *p, uint64_t n)

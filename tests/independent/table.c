@@ -1,23 +1,29 @@
-/* table.c - the table: the well-formedness check, changes of one record, frames written, the clock step. */
+/* table.c - the table: the well-formedness check, changes of one record, the clock step. */
 #include "rules.h"
 
-#include <string.h>
+enum { REPORT_OCTETS = 8 }; /* what a clock step writes for each report */
 
-enum { TIMEOUT_OCTETS = 8 }; /* what a clock step writes for each exchange timed out */
+/* Times that a setting may have: 1 to 65,535 TU. */
+static bool in_range(uint32_t time)
+{
+    return time - 1 < PT_TIME_MAX;
+}
 
-/* Settings in range: role 1 or 2, RSNA 0 or 1, timeouts 1 to 65,535 TU, own address valid, edition
-   1 or 2, protection 0 or 1. */
+/* Settings in range: role 1 or 2, RSNA 0 or 1, own address valid, edition 1 or 2, protection 0 or
+   1, and all four times. */
 static bool settings_fit(const struct pt_settings *s)
 {
-    return (s->role == PT_AP || s->role == PT_STATION) && s->rsna <= 1 &&
-           s->auth_timeout - 1 < PT_TIME_MAX && s->assoc_timeout - 1 < PT_TIME_MAX &&
-           pt_valid(s->own) && (s->edition == 1 || s->edition == 2) && s->protection <= 1;
+    return (s->role == PT_AP || s->role == PT_STATION) && s->rsna <= 1 && pt_valid(s->own) &&
+           in_range(s->auth_timeout) && in_range(s->assoc_timeout) &&
+           (s->edition == 1 || s->edition == 2) && s->protection <= 1 &&
+           in_range(s->query_retry) && in_range(s->query_maximum);
 }
 
 /* A free place has every field zero. */
 static bool is_free(const struct pt_record *r)
 {
-    return r->address == 0 && (r->left | r->hold) == 0 && (r->state | r->phase | r->kind) == 0;
+    return r->address == 0 && (r->left | r->hold | r->query_left) == 0 && r->identifier == 0 &&
+           (r->state | r->phase | r->kind | r->query) == 0;
 }
 
 /* The exchange fits the role and the state, and its time left fits the exchange. */
@@ -32,7 +38,7 @@ static bool exchange_fits(uint8_t role, const struct pt_record *r)
         return false;
     /* A station has sent exchanges only, each with 1 to 65,535 TU left. */
     if (role == PT_STATION)
-        return r->phase == PT_SENT && r->left - 1 < PT_TIME_MAX;
+        return r->phase == PT_SENT && in_range(r->left);
     /* An AP's are asked, or await an acknowledgement (not authentication); no time runs. */
     return r->left == 0 && (r->phase == PT_ASKED ||
                             (r->phase == PT_AWAITING && r->kind != PT_AUTHENTICATION));
@@ -42,7 +48,8 @@ static bool exchange_fits(uint8_t role, const struct pt_record *r)
 static bool record_fits(const struct pt_settings *s, const struct pt_record *r)
 {
     return r->state >= 1 && r->state <= 4 && pt_valid(r->address) && r->address != s->own &&
-           (s->role == PT_STATION || r->hold == 0) && exchange_fits(s->role, r);
+           (s->role == PT_STATION || r->hold == 0) && exchange_fits(s->role, r) &&
+           pt_query_fits(s, r);
 }
 
 bool pt_look(const struct pt_settings *s, const struct pt_record *table, uint64_t peer,
@@ -92,12 +99,14 @@ struct pt_step pt_begin(const struct pt_settings *s, struct pt_record *table,
 }
 
 /* Sets the peer's state. An AP tells the distribution system "joined" on a rise from State 1-2
-   to 3-4 and "left" on the fall back. */
+   to 3-4 and "left" on the fall back. A query, or its mark, is of State 4 only. */
 void pt_move(struct pt_step *t, uint8_t state)
 {
     bool before = t->record->state >= 3, after = state >= 3;
 
     t->record->state = state;
+    if (state != 4)
+        pt_query_end(t->record);
     if (t->s->role == PT_AP && before != after)
         t->a.ds = after ? PT_DS_JOINED : PT_DS_LEFT;
 }
@@ -118,83 +127,31 @@ void pt_exchange(struct pt_record *r, enum pt_phase phase, uint8_t kind, uint32_
     r->left = left;
 }
 
-/* The 24 octets before each body: duration 0, Address 1 the peer, Address 2 own, Address 3 the
-   AP's, sequence control 0. Gives the place of the body. */
-static uint8_t *write_head(struct pt_step *t, unsigned subtype)
-{
-    uint8_t *p = t->out;
-
-    memset(p, 0, 24);
-    p[0] = (uint8_t)(subtype << 4);
-    pt_put48(p + 4, t->peer);
-    pt_put48(p + 10, t->s->own);
-    pt_put48(p + 16, t->s->role == PT_AP ? t->s->own : t->peer);
-    return p + 24;
-}
-
-/* The capability: 0001, with the privacy bit (0011) where RSNA is required. */
-static uint16_t capability(const struct pt_settings *s)
-{
-    return s->rsna ? 0x0011 : 0x0001;
-}
-
-/* Authentication: algorithm, transaction, status. */
-void pt_write_auth(struct pt_step *t, uint16_t algorithm, uint16_t transaction, uint16_t status)
-{
-    uint8_t *p = write_head(t, PT_AUTH);
-
-    pt_put16(p, algorithm);
-    pt_put16(p + 2, transaction);
-    pt_put16(p + 4, status);
-    t->a.written = 30;
-}
-
-/* (Re)association request: capability, listen interval 10; a reassociation then the current AP. */
-void pt_write_request(struct pt_step *t, uint8_t kind, uint64_t current)
-{
-    bool again = kind == PT_REASSOCIATION;
-    uint8_t *p = write_head(t, again ? PT_REASSOC_REQUEST : PT_ASSOC_REQUEST);
-
-    pt_put16(p, capability(t->s));
-    pt_put16(p + 2, 10);
-    if (again)
-        pt_put48(p + 4, current);
-    t->a.written = again ? 34 : 28;
-}
-
-/* (Re)association response: capability, status, AID with both top bits set, AID 0 all clear. */
-void pt_write_response(struct pt_step *t, uint8_t kind, uint16_t status, uint16_t aid)
-{
-    uint8_t *p = write_head(t, kind == PT_REASSOCIATION ? PT_REASSOC_RESPONSE : PT_ASSOC_RESPONSE);
-
-    pt_put16(p, capability(t->s));
-    pt_put16(p + 2, status);
-    pt_put16(p + 4, aid ? (uint16_t)(aid | 0xC000) : 0);
-    t->a.written = 30;
-}
-
-/* Deauthentication or disassociation: the reason. */
-void pt_write_reason(struct pt_step *t, enum pt_subtype subtype, uint16_t reason)
-{
-    pt_put16(write_head(t, subtype), reason);
-    t->a.written = 26;
-}
-
-/* The report of one timeout: place, kind of the exchange, address. */
-static void write_timeout(uint8_t *p, int place, const struct pt_record *r)
+/* One report: place, kind, address. */
+static void write_report(uint8_t *p, int place, uint8_t kind, uint64_t address)
 {
     p[0] = (uint8_t)place;
-    p[1] = r->kind;
-    pt_put48(p + 2, r->address);
+    p[1] = kind;
+    pt_put48(p + 2, address);
 }
 
-/* The exchange's time has fallen to 0: authentication keeps the state, the others set State 2.
-   Only a station's exchange has a time, so there is nothing to tell the distribution system. */
-static void time_out(struct pt_record *r)
+/* Lowers the time left of an exchange; where that falls to 0 the exchange ends, and its kind is
+   what to report. Authentication keeps the state, the others set State 2. Only a station's exchange
+   has a time, so there is nothing to tell the distribution system. */
+static uint8_t age_exchange(struct pt_record *r, uint32_t step)
 {
-    if (r->kind != PT_AUTHENTICATION)
+    uint8_t kind = r->kind;
+
+    if (r->left == 0)
+        return 0;
+    if (r->left > step) {
+        r->left -= step;
+        return 0;
+    }
+    if (kind != PT_AUTHENTICATION)
         r->state = 2;
     pt_exchange(r, PT_NONE, PT_NO_KIND, 0);
+    return kind;
 }
 
 /* A record in State 1 without an exchange and with hold 0 has nothing left to keep. */
@@ -204,7 +161,8 @@ static bool is_idle(const struct pt_record *r)
 }
 
 /* Refusals 1, 2, 3; then one pass in rising place. What befalls one record does not touch another,
-   so lowering, ending and freeing record by record comes to the order the rules give. */
+   so lowering, ending and freeing record by record comes to the order the rules give. An exchange
+   has a time at a station only and a query is at an AP only: a record has one report at most. */
 struct pt_answer pt_clock(const struct pt_settings *s, struct pt_record *table,
                           uint16_t step, uint8_t *out, size_t out_len)
 {
@@ -220,14 +178,12 @@ struct pt_answer pt_clock(const struct pt_settings *s, struct pt_record *table,
 
     for (int i = 0; i < PT_PLACES; i++) {
         struct pt_record *r = &table[i];
+        uint8_t kind = s->role == PT_STATION ? age_exchange(r, step) : pt_query_age(s, r, step);
 
         r->hold -= r->hold < step ? r->hold : step;
-        if (r->left > step) {
-            r->left -= step;
-        } else if (r->left > 0) {
-            write_timeout(out + written, i, r);
-            written += TIMEOUT_OCTETS;
-            time_out(r);
+        if (kind != 0) {
+            write_report(out + written, i, kind, r->address);
+            written += REPORT_OCTETS;
         }
         if (is_idle(r))
             *r = (struct pt_record){ 0 };

@@ -14,6 +14,7 @@ OWN = bench.address("02:00:00:00:00:0a")
 PEER = bench.address("02:00:00:00:01:01")
 OTHER = bench.address("02:00:00:00:01:02")
 TIMEOUT = 100
+QUERY_RETRY, QUERY_MAXIMUM = 30, 100
 LONGEST_STEP = 65535
 
 # by: `frame`, `primitive-N` or `clock`; about: the peer's address, None for a clock step;
@@ -23,7 +24,7 @@ Event = collections.namedtuple("Event", "by cause about octets comeback", defaul
 NAMES = {1: "AUTHENTICATE.request", 2: "AUTHENTICATE.response", 3: "DEAUTHENTICATE.request",
          4: "ASSOCIATE.request", 5: "REASSOCIATE.request", 6: "DISASSOCIATE.request",
          7: "ASSOCIATE.response", 8: "REASSOCIATE.response", 9: "SETPROTECTION",
-         10: "transmit report"}
+         10: "transmit report", 11: "SA-QUERY.request"}
 CODES = (0, 1, 17)
 
 
@@ -33,7 +34,7 @@ def zero_or_not(word, value):
 
 def primitive_cause(which, code):
     """The name of a primitive with a code that it takes; of any other the two numbers."""
-    if which in (1, 4, 5, 9) and code == 0 or which in (3, 6) and code != 0:
+    if which in (1, 4, 5, 9, 11) and code == 0 or which in (3, 6) and code != 0:
         return NAMES[which]
     if which in (2, 7, 8):
         return f"{NAMES[which]}, {zero_or_not('status', code)}"
@@ -45,13 +46,13 @@ def primitive_cause(which, code):
 def primitives(about):
     return [Event(f"primitive-{which}", primitive_cause(which, code), about,
                   bench.primitive(which, about, code))
-            for which in range(12) for code in CODES]
+            for which in range(13) for code in CODES]
 
 
 def clocks():
-    """No time runs out; the exchanges do; the holds do too."""
+    """No time runs out; a query's retry does; the exchanges and the query do; the holds do too."""
     return [Event("clock", f"{step} TU", None, bench.clock(step))
-            for step in (1, TIMEOUT, LONGEST_STEP)]
+            for step in (1, QUERY_RETRY, TIMEOUT, LONGEST_STEP)]
 
 
 def authentications(to, about):
@@ -102,6 +103,22 @@ def acting_frames(about):
     return events
 
 
+def queries(about):
+    """SA Query requests, responses with identifiers that a record can come to and with others, and
+    frames that are no query by one thing each."""
+    kinds = [("SA Query request", (bench.QUERY_REQUEST, 1), {})]
+    kinds += [(f"SA Query response, identifier {n}", (bench.QUERY_RESPONSE, n), {})
+              for n in (0, 1, 2, 3, 257, 65535)]
+    kinds += [("SA Query cut short", (bench.QUERY_RESPONSE, 1), dict(length=27)),
+              ("another SA Query action", (2, 1), {}),
+              ("Action No Ack", (bench.QUERY_RESPONSE, 1), dict(subtype=bench.ACTION_NO_ACK))]
+    events_ = [Event("frame", cause, about, bench.frame(bench.sa_query(OWN, about, *words, **given)))
+               for cause, words, given in kinds]
+    return events_ + [Event("frame", "SA Query to a group address", about, bench.frame(
+        bench.sa_query(bench.BROADCAST, about, what, 1)))
+        for what in (bench.QUERY_REQUEST, bench.QUERY_RESPONSE)]
+
+
 def actions(about):
     """Public Actions, and Action frames that are none by one thing each."""
     public = bytes((bench.PUBLIC,))
@@ -119,7 +136,7 @@ def other_frames(about):
     return [Event("frame", f"type {kind} subtype {subtype}", about,
                   bench.frame(bench.any_frame(kind, subtype, to, about, 40)))
             for kind in range(4) for subtype in range(16) for to in (OWN, bench.BROADCAST)
-            if kind or subtype not in acting] + actions(about)
+            if kind or subtype not in acting] + actions(about) + queries(about)
 
 
 @functools.lru_cache(maxsize=None)

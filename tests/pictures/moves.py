@@ -4,7 +4,8 @@ python3 -m tests.pictures.moves --bench CMD [--trace WORD]
 
 The moves are derived by trying every event in every situation (situations.py). A move that the
 program makes and the list has not, or the other way round, is named; so is a class of frames that
-passes in a state where the list keeps it out, or the other way round.
+passes in a state where the list keeps it out, or the other way round. So it is with the moves of a
+query.
 """
 
 import argparse
@@ -13,6 +14,7 @@ import shlex
 import sys
 
 from tests import ending
+from tools import bench_input as bench
 from tools.pictures import move_list
 
 from . import situations
@@ -20,13 +22,16 @@ from . import situations
 ROLES = {number: word for word, number in move_list.ROLES.items()}
 # Kinds of frames of each class.
 PROBES = {"type 0 subtype 8": 1, "Public Action": 1, "Disassociation": 2, "type 2 subtype 0": 3,
-          "Action": 3, "Action No Ack": 3}
+          "Action": 3, "Action No Ack": 3, "SA Query request": 3}
+QUERIES = {number: word for word, number in move_list.QUERIES.items()}
 
 
 def expanded(lines):
-    """The listed moves, one for each RSNA, rule and hold."""
-    return {situations.Move(*line._replace(rsna=rsna, rule=rule, hold=hold))
-            for line in lines for rsna in line.rsna for rule in line.rule for hold in line.hold}
+    """The listed moves of a state, one for each RSNA, rule and hold, and of a query."""
+    moves = {situations.Move(*line._replace(rsna=rsna, rule=rule, hold=hold))
+             for line in lines.moves for rsna in line.rsna for rule in line.rule for hold in line.hold}
+    return moves | {situations.QueryMove(*line._replace(rsna=rsna, rule=rule))
+                    for line in lines.queries for rsna in line.rsna for rule in line.rule}
 
 
 def passing(turns):
@@ -47,6 +52,9 @@ def settings_words(role, rsna, rule):
 
 
 def shown(move):
+    if isinstance(move, situations.QueryMove):
+        return (f"{settings_words(bench.ACCESS_POINT, move.rsna, move.rule)}: query "
+                f"{QUERIES[move.before]} to {QUERIES[move.after]} by {move.by}, {move.cause}")
     state = {0: "none"}
     return (f"{settings_words(move.role, move.rsna, move.rule)}: "
             f"{state.get(move.before, move.before)} to "
@@ -68,6 +76,7 @@ def derived(command):
         counts[1] += len(turns)
         for turn in turns:
             moves.update(situations.moves_of(turn, role, rsna, rule))
+            moves.update(situations.query_moves_of(turn, role, rsna, rule))
     return moves, passes, counts
 
 
@@ -77,14 +86,14 @@ def main():
     parser.add_argument("--trace", default="trace", metavar="WORD")
     given = parser.parse_args()
     try:
-        lines, table = move_list.read()
+        lines = move_list.read()
         made, passes, counts = derived(shlex.split(given.bench) + [given.trace])
     except (move_list.Fault, situations.Trouble) as fault:
         sys.exit(f"moves: {fault}")
     wanted = expanded(lines)
-    in_list = {(state, klass) for state, classes in table.items() for klass in classes}
-    faults = [f"made and not in the list: {shown(move)}" for move in sorted(made - wanted)]
-    faults += [f"in the list and never made: {shown(move)}" for move in sorted(wanted - made)]
+    in_list = {(state, klass) for state, classes in lines.passes.items() for klass in classes}
+    faults = sorted(f"made and not in the list: {shown(move)}" for move in made - wanted)
+    faults += sorted(f"in the list and never made: {shown(move)}" for move in wanted - made)
     faults += [f"class {klass} in state {state}: the list and the program differ"
                for state, klass in sorted(passes ^ in_list)]
     ending.tell(f"{counts[0]} situations, {counts[1]} events tried, {len(made)} moves", faults)

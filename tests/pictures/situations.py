@@ -1,6 +1,6 @@
 """Every situation that a table can come to with two peers, and every move of a state on the way.
 
-A situation is what the two records hold: state, exchange, and whether a hold runs. From the empty
+A situation is what the two records hold: state, exchange, whether a hold runs, and the query. From the empty
 table each event of the alphabet is tried in each situation found so far, until none is new. The
 program alone says what comes of an event: its trace shows the table.
 """
@@ -11,19 +11,23 @@ import subprocess
 
 from tools import bench_input as bench
 
-from .alphabet import LONGEST_STEP, OTHER, OWN, PEER, TIMEOUT, clocks, events
+from .alphabet import (LONGEST_STEP, OTHER, OWN, PEER, QUERY_MAXIMUM, QUERY_RETRY, TIMEOUT, clocks,
+                       events)
 
 PLACE = re.compile(r"  place \d+ ([0-9a-f]{12}) (\d+) (\d+) (\d+) (\d+)")
+QUERY = re.compile(r"  query \d+ (\d+) (\d+) (\d+)")
 KINDS = {7: "authentication", 8: "association", 9: "reassociation"}
 USUAL_HOLD = 1954
 SECONDS = 120
 # Both records given up, and time for every hold: the table is empty again.
 RESET = [bench.primitive(3, PEER, 3), bench.primitive(3, OTHER, 3), bench.clock(LONGEST_STEP)]
 
-Row = collections.namedtuple("Row", "state exchange left hold")
+Row = collections.namedtuple("Row", "state exchange left hold identifier query query_left",
+                             defaults=(0, 0, 0))
 NO_ROW = Row(0, 0, 0, 0)
 Turn = collections.namedtuple("Turn", "event verdict ds before after")
 Move = collections.namedtuple("Move", "role rsna rule before after ds hold by cause")
+QueryMove = collections.namedtuple("QueryMove", "rsna rule before after by cause")
 
 
 class Trouble(Exception):
@@ -45,16 +49,29 @@ def run(command, octets):
     return said
 
 
+def rows(said):
+    """The rows after an event by address; the line of a query stands behind that of its place."""
+    found, address = {}, None
+    for line in said:
+        place, query = PLACE.match(line), QUERY.match(line)
+        if place:
+            address = bytes.fromhex(place.group(1))
+            found[address] = Row(*map(int, place.groups()[1:]))
+        elif query and address is None:
+            raise Trouble(f"no place before '{line}'")
+        elif query:
+            found[address] = Row(*found[address][:4], *map(int, query.groups()))
+    return found
+
+
 def rows_of(said):
     """The two peers' rows after an event."""
-    rows = {}
-    for found in filter(None, map(PLACE.match, said)):
-        rows[bytes.fromhex(found.group(1))] = Row(*map(int, found.groups()[1:]))
-    return rows.get(PEER, NO_ROW), rows.get(OTHER, NO_ROW)
+    found = rows(said)
+    return found.get(PEER, NO_ROW), found.get(OTHER, NO_ROW)
 
 
-def situation(rows):
-    return tuple((row.state, row.exchange, row.hold > 0) for row in rows)
+def situation(both):
+    return tuple((row.state, row.exchange, row.hold > 0, row.query) for row in both)
 
 
 def alphabet(role, now):
@@ -67,7 +84,8 @@ def alphabet(role, now):
 def tried(command, role, rsna, rule, found):
     """One turn for each event in each of the situations found, each begun from an empty table. The
     rule is edition and protection."""
-    records, trials = [bench.settings(role, OWN, rsna, TIMEOUT, TIMEOUT, *rule)], []
+    times = TIMEOUT, TIMEOUT, *rule, QUERY_RETRY, QUERY_MAXIMUM
+    records, trials = [bench.settings(role, OWN, rsna, *times)], []
     for now, path in found.items():
         for event in alphabet(role, now):
             records += RESET + path + [event.octets]
@@ -142,12 +160,34 @@ def moves_of(turn, role, rsna, rule):
                        cause_of(turn, address, before, after))
 
 
+def query_cause(turn, before):
+    """The event's name, as a query sees it: a response by whether it has the query's identifier, a
+    clock step by what it reached."""
+    if turn.event.by == "clock":
+        step = int(turn.event.cause.split()[0])
+        return "maximum reached" if before.query_left <= step else "retry reached"
+    name, _, identifier = turn.event.cause.partition(", identifier ")
+    if not identifier or int(identifier) == before.identifier:
+        return name
+    return f"{name}, another identifier"
+
+
+def query_moves_of(turn, role, rsna, rule):
+    """The moves that a turn makes of a query while its peer stays in State 4. Elsewhere there is none."""
+    for before, after in zip(turn.before, turn.after):
+        if after.query and (after.state != 4 or role != bench.ACCESS_POINT):
+            raise Trouble(f"a query in State {after.state} after '{turn.event.cause}'")
+        if before.query != after.query and after.state == 4:
+            yield QueryMove(rsna, rule, before.query, after.query, turn.event.by,
+                            query_cause(turn, before))
+
+
 def one_cause_one_outcome(turns):
-    """Events of one name do the same to both states in one situation; the first that do not."""
+    """Events of one name do the same to both states and queries in one situation; the first that do not."""
     seen = {}
     for turn in turns:
         key = (situation(turn.before), turn.event.by, turn.event.cause, turn.event.about)
-        states = tuple(row.state for row in turn.after)
+        states = tuple((row.state, row.query) for row in turn.after)
         if seen.setdefault(key, states) != states:
             return f"'{turn.event.cause}' in {key[0]} leads to {seen[key]} and to {states}"
     return None

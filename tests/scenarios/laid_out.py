@@ -9,7 +9,7 @@ PRIMITIVES = (("authenticate", "code"), ("respond-authenticate", "status"),
               ("deauthenticate", "reason"), ("associate", "code"), ("reassociate", "code"),
               ("disassociate", "reason"), ("respond-associate", "status"),
               ("respond-reassociate", "status"), ("set-protection", "code"),
-              ("report", "acknowledged"))
+              ("report", "acknowledged"), ("query", "code"))
 
 
 def event(line, first=f"ap own={OWN}"):
@@ -37,6 +37,13 @@ def frames_as_laid_out():
         ("public-action flags=0x40", bench.action(OWN, PEER, b"\4", flags=bench.PROTECTED)),
         ("public-action length=24", bench.action(OWN, PEER)),
         ("auth-request length=29", bench.authentication(OWN, PEER)[:29]),
+        ("sa-query-request", bench.sa_query(OWN, PEER, 0, 1)),
+        ("sa-query-request id=65535", bench.sa_query(OWN, PEER, 0, 65535)),
+        ("sa-query-response id=0x102", bench.action(OWN, PEER, b"\x08\1\2\1")),
+        ("sa-query-response id=2 body=00 flags=0x40",
+         bench.action(OWN, PEER, b"\x08\1\2\0\0", flags=bench.PROTECTED)),
+        ("sa-query-response length=27", bench.sa_query(OWN, PEER, 1, 1, 27)),
+        ("action category=8 body=000100", bench.sa_query(OWN, PEER, 0, 1)),
     ]
     elements = bench.timeout_interval(5) + b"\xdd\0"
     response = bench.association_response(OWN, PEER, 17, 0, elements=elements)
@@ -51,18 +58,19 @@ def frames_as_laid_out():
 
 
 def settings_as_laid_out():
-    """Each word of the settings in its place; the record has 14 octets where edition or protection
-    is given, else 12. A second settings line begins a second bench input."""
-    pairs = [("", bench.settings(1, OWN)), ("rsna=1", bench.settings(1, OWN, 1)),
-             ("timeouts=7,9", bench.settings(1, OWN, 0, 7, 9)),
-             ("edition=1", bench.settings(1, OWN, edition=1, protection=0)),
-             ("edition=2", bench.settings(1, OWN, edition=2, protection=0)),
-             ("protection=1", bench.settings(1, OWN, edition=1, protection=1)),
-             ("protection=255 edition=0", bench.settings(1, OWN, edition=0, protection=255))]
+    """Each word of the settings in its place: a record of 12 octets, of 14 where edition or protection
+    is given, of 18 where a time of a query is. A second settings line begins a second bench input."""
+    first = b"\1" + bench.address(OWN)
+    pairs = [("", b"\0d\0d\0"), ("rsna=1", b"\1d\0d\0"), ("timeouts=7,9", b"\0\7\0\x09\0"),
+             ("edition=1", b"\0d\0d\0\1\0"), ("edition=2", b"\0d\0d\0\2\0"),
+             ("protection=1", b"\0d\0d\0\1\1"), ("protection=255 edition=0", b"\0d\0d\0\0\xff"),
+             ("query-retry=7", b"\0d\0d\0\1\0\7\0\xe8\3"),
+             ("query-maximum=65535", b"\0d\0d\0\1\0\xc9\0\xff\xff"),
+             ("query-maximum=0 query-retry=256 edition=2", b"\0d\0d\0\2\0\0\1\0\0")]
     faults = []
-    for words, record in pairs:
+    for words, rest in pairs:
         lines = read.read(f"ap own={OWN} {words}\n", "test")[1]
-        if read.bench_inputs(lines) != [(record, 0)] or len(record) != (17 if words[:1] in "rt" else 19):
+        if read.bench_inputs(lines) != [(bench.record(bench.SETTINGS, first + rest), 0)]:
             faults.append(words)
     second = f"station own={PEER} edition=2\nclock 1\nframe deauth from=p\n"
     _, lines = read.read(f"ap own={OWN}\nname p = {OTHER}\nclock 2\n{second}", "test")

@@ -107,8 +107,11 @@ def generated_frames_round_trip():
 def odd_answers_are_told():
     """A bench program that prints what it never should, or can't be run, is a fault with a line."""
     line, place = "1 0 - 0 0 0 - 0\n", "  place 0 02000000000a 1 0 0 0\n"
+    query = "  query 1 1 2 1000\n"
     wanted = [("stop\n", "the bench program printed 'stop', which is no line of its trace"),
               (place + line, f"the bench program printed '{place[:-1]}', which is no line of its trace"),
+              (line + query, f"the bench program printed '{query[:-1]}', which is no line of its trace"),
+              (line + place + query, f"the bench program printed '{query[:-1]}', which is no line of its trace"),
               ("", "the bench program gave 0 answers to 1 events"),
               (line + line, "the bench program gave 2 answers to 1 events")]
     faults = []

@@ -12,7 +12,8 @@ struct maker maker_of(struct stream *stream, uint64_t seed, uint8_t role)
     memset(frames, 0, frames_used);
     frames_used = 0;
     stream->settings = (peer_settings){ .role = role, .authentication_timeout = 60000, .association_timeout = 60000,
-                                        .edition = PEER_EDITION_1 };
+                                        .edition = PEER_EDITION_1, .query_retry = PEER_QUERY_RETRY_USUAL,
+                                        .query_maximum = PEER_QUERY_MAXIMUM_USUAL };
     peer_address_write(OWN, stream->settings.own);
     return (struct maker){ .stream = stream, .chance = chance_of(seed) };
 }
@@ -91,6 +92,15 @@ void hear_response(struct maker *m, uint64_t from, bool again, uint16_t status, 
     p[2] = 3;
     for (int i = 0; i < 4; i++)
         p[3 + i] = (uint8_t)(comeback >> (8 * i));
+}
+
+void hear_query(struct maker *m, uint64_t from, uint8_t action, uint16_t identifier)
+{
+    uint8_t *p = hear(m, MANAGEMENT, PT_ACTION, OWN, from, PEER_QUERY_OCTETS);
+
+    p[24] = PEER_CATEGORY_SA_QUERY;
+    p[25] = action;
+    pt_put16(p + 26, identifier);
 }
 
 void hear_farewell(struct maker *m, bool deauthentication, uint64_t to, uint64_t from)

@@ -30,6 +30,7 @@ uint8_t *hear(struct maker *m, unsigned type, unsigned subtype, uint64_t to, uin
 void hear_authentication(struct maker *m, uint64_t from, uint16_t transaction, uint16_t algorithm);
 void hear_request(struct maker *m, uint64_t from);
 void hear_response(struct maker *m, uint64_t from, bool again, uint16_t status, int64_t comeback);
+void hear_query(struct maker *m, uint64_t from, uint8_t action, uint16_t identifier);
 void hear_farewell(struct maker *m, bool deauthentication, uint64_t to, uint64_t from);
 void ask(struct maker *m, uint8_t primitive, uint64_t address, uint16_t code);
 void let_pass(struct maker *m, uint16_t step);
@@ -51,5 +52,6 @@ void make_joins_ap(struct maker *m, unsigned peers);
 void make_joins_station(struct maker *m, unsigned peers);
 void make_clock_ap(struct maker *m, unsigned peers);
 void make_clock_station(struct maker *m, unsigned peers);
+void make_forged_ap(struct maker *m, unsigned peers);
 
 #endif

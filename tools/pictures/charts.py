@@ -5,13 +5,13 @@ import collections
 from .labels import TEXT_AT, mark
 from .scenes import ACK, COMEBACK_0, COMEBACK_5, JOIN, NO_COMEBACK, PARTS
 from .states import FILLS
-from .svg import AMBER, BLUE, GREEN, INK, MUTED, PAPER, RED, SIZE, Canvas, width_of
-from .words import REFUSALS, frame_words, notice_words, primitive_words
+from .svg import AMBER, BLUE, GREEN, INK, MUTED, PAPER, RED, Canvas, width_of
+from .words import QUERIES, REFUSALS, frame_words, notice_words, primitive_words
 
 ROW, LINE = 34, 16
 TOP = 92
-# The lifelines of each side's own side, table and peer.
-Lines = collections.namedtuple("Lines", "own table peer")
+# The lifelines of each side's own side, table and peer, and of an attacker.
+Lines = collections.namedtuple("Lines", "own table peer attacker", defaults=(None,))
 
 
 def parted(words, room):
@@ -44,13 +44,14 @@ class Chart:
             self.canvas.rectangle(x - wide / 2, self.top - 46, wide, 30, "#eff2f5", "#8c959f")
             self.canvas.text(x, self.top - 26.5, name, anchor="middle", bold=True, over=True)
 
-    def message(self, start, end, words, kind=None, stroke=INK, dashed=False):
-        """An arrow with its words above it."""
-        indent = TEXT_AT if kind else 0
-        lines = parted(words, abs(end - start) - 16 - indent)
+    def message(self, start, end, words, kind=None, stroke=INK, dashed=False, near=None):
+        """An arrow with its words above it: over all of it, or from its start to a lifeline `near`
+        that it crosses."""
+        indent, edge = TEXT_AT if kind else 0, end if near is None else near
+        lines = parted(words, abs(edge - start) - 16 - indent)
         self.y += ROW + LINE * (len(lines) - 1)
         wide = max(width_of(line) for line in lines) + indent
-        left = (start + end) / 2 - wide / 2
+        left = (start + edge) / 2 - wide / 2
         for at, line in enumerate(reversed(lines)):
             self.canvas.text(left + indent, self.y - 7 - LINE * at, line,
                              fill=stroke if stroke == RED else INK)
@@ -69,9 +70,9 @@ class Chart:
                          over=True)
         self.y += 18
 
-    def state_badge(self, x, state, hold):
+    def state_badge(self, x, state, hold, query):
         words = f"State {state}" + (f", hold {hold} TU" if self.show_hold else "")
-        self.badge(x, words, FILLS[state])
+        self.badge(x, words + (f", {QUERIES[query]}" if query else ""), FILLS[state])
 
 
 def event_message(chart, lines, step, heard):
@@ -83,9 +84,13 @@ def event_message(chart, lines, step, heard):
     elif kind == "clock":
         chart.y += 10
         chart.badge(lines.table, f"{step.event[1]} TU pass", PAPER, "clock")
+    elif step.forged:
+        chart.message(lines.attacker, lines.table, frame_words(step.event[1]) + ", forged", None, RED,
+                      near=lines.peer)
     elif step.event[1] not in heard:
-        admitted = ", admitted" if (verdict, notice) == ("A", "0") and step.event[1] != ACK else ""
-        chart.message(lines.peer, lines.table, frame_words(step.event[1]) + admitted, None, BLUE,
+        alone = (verdict, notice) == ("A", "0") and step.event[1] != ACK
+        judged = ", admitted" if alone else ", discarded" if verdict == "D" else ""
+        chart.message(lines.peer, lines.table, frame_words(step.event[1]) + judged, None, BLUE,
                       step.event[1] == ACK)
 
 
@@ -113,8 +118,8 @@ def part(chart, name):
 
 
 def play(chart, sides, steps, rows, parts=()):
-    """Draws the steps. `rows` has each side's state and hold so far; a frame that the other side
-    has sent is drawn once."""
+    """Draws the steps. `rows` has each side's state, hold and query so far; a frame that the other
+    side has sent is drawn once."""
     heard = set()
     for number, step in enumerate(steps):
         if number in parts:
@@ -123,9 +128,10 @@ def play(chart, sides, steps, rows, parts=()):
         event_message(chart, lines, step, heard)
         state = int(step.answer.split()[6]) or now[0]
         rejected = step.event[0] == "hear" and chart.show_hold
-        if (state, step.hold) != now or rejected:
-            chart.state_badge(lines.table, state, step.hold)
-        rows[step.side] = (state, step.hold)
+        row = state, step.hold, step.query[1]
+        if row != now or rejected:
+            chart.state_badge(lines.table, *row)
+        rows[step.side] = row
         answer_messages(chart, lines, step)
         heard.add(step.sent)
 
@@ -144,7 +150,7 @@ def join():
     chart = Chart(canvas, {own_s: "Station's own side", table_s: "Station's table",
                            table_a: "Access point's table", own_a: "AP's own side"})
     sides = {"station": Lines(own_s, table_s, table_a), "ap": Lines(own_a, table_a, table_s)}
-    play(chart, sides, JOIN, {"station": (0, 0), "ap": (0, 0)}, PARTS)
+    play(chart, sides, JOIN, {"station": (0, 0, 0), "ap": (0, 0, 0)}, PARTS)
     chart.names(chart.y + 24)
     canvas.height = chart.y + 48
     return canvas
@@ -170,7 +176,7 @@ def comeback():
         canvas.text(left + 34, 104, title, 14.5, bold=True)
         own, table, peer = left + 72, left + 288, left + 508
         chart = Chart(canvas, {own: "Own side", table: "Station's table", peer: "AP"}, True, 124)
-        play(chart, {"station": Lines(own, table, peer)}, steps, {"station": (2, 0)})
+        play(chart, {"station": Lines(own, table, peer)}, steps, {"station": (2, 0, 0)})
         chart.names(chart.y + 24)
         canvas.height = max(canvas.height, chart.y + 48)
         if left == 0:

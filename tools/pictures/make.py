@@ -5,17 +5,17 @@ With --check it names those that are otherwise.
 
 import sys
 
-from . import charts, move_list, states
+from . import charts, forged, move_list, states
 
 FOLDER = move_list.LIST.parent
 
 
 def pictures():
     """The text of each picture by its file's name; a fault where words would overlap."""
-    lines, passes = move_list.read()
-    canvases = {"states_ap": states.picture(1, lines, passes),
-                "states_station": states.picture(2, lines, passes),
-                "join": charts.join(), "comeback": charts.comeback()}
+    lines = move_list.read()
+    canvases = {"states_ap": states.picture(1, lines), "states_station": states.picture(2, lines),
+                "join": charts.join(), "comeback": charts.comeback(),
+                "forged_rejoin": forged.forged_rejoin()}
     for name, canvas in canvases.items():
         if canvas.faults():
             raise move_list.Fault(f"{name}: " + "; ".join(canvas.faults()))

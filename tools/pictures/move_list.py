@@ -1,4 +1,4 @@
-"""Reads docs/pictures/moves.txt: the moves of a state, and the classes that pass in each state."""
+"""Reads docs/pictures/moves.txt: the moves of a state and of a query, and the classes that pass."""
 
 import collections
 import pathlib
@@ -12,10 +12,14 @@ RSNA = {"0": (0,), "1": (1,), "any": (0, 1)}
 RULES = {"1": ((1, 0), (1, 1)), "2": ((2, 0),), "2p": ((2, 1),),
          "any": ((1, 0), (1, 1), (2, 0), (2, 1))}
 STATES = {"none": 0, "1": 1, "2": 2, "3": 3, "4": 4}
-COLUMNS = 9
+QUERIES = {"none": 0, "sent": 1, "due": 2, "timed-out": 3}
+COLUMNS, QUERY_COLUMNS = 9, 7
 
 # One line of the list; `rsna`, `rule` and `hold` are tuples, states are numbers and 0 is no record.
 Listed = collections.namedtuple("Listed", "role rsna rule before after ds hold by cause")
+ListedQuery = collections.namedtuple("ListedQuery", "rsna rule before after by cause")
+# The whole list; `passes` has for each state the classes that pass.
+List = collections.namedtuple("List", "moves queries passes")
 
 
 class Fault(Exception):
@@ -39,18 +43,31 @@ def listed(number, words):
                   tuple(hold.split(",")), by, cause)
 
 
+def listed_query(number, line):
+    words = line.split(maxsplit=QUERY_COLUMNS - 1)
+    if len(words) < QUERY_COLUMNS:
+        raise Fault(f"{LIST.name}, line {number}: {len(words)} columns, not {QUERY_COLUMNS}")
+    _, rsna, rule, before, after, by, cause = words
+    return ListedQuery(one_of(number, "RSNA", rsna, RSNA), one_of(number, "rule", rule, RULES),
+                       one_of(number, "from", before, QUERIES), one_of(number, "to", after, QUERIES),
+                       by, cause)
+
+
 def read(path=LIST):
-    """The lines of the list, and for each state the classes that pass."""
-    moves, passes = [], {}
+    """The whole list."""
+    moves, queries, passes = [], [], {}
     try:
         lines = path.read_text().splitlines()
     except OSError as fault:
         raise Fault(f"the list of moves can't be read: {fault}") from fault
     for number, line in enumerate(lines, 1):
-        words = line.split("#", 1)[0].split(maxsplit=COLUMNS - 1)
+        line = line.split("#", 1)[0].rstrip()
+        words = line.split(maxsplit=COLUMNS - 1)
         if not words:
             continue
-        if words[0] == "passes":
+        if words[0] == "query":
+            queries.append(listed_query(number, line))
+        elif words[0] == "passes":
             state = one_of(number, "state", " ".join(words[1:2]), STATES)
             passes[state] = tuple(int(one_of(number, "class", word, "123")) for word in words[2:])
         else:
@@ -58,4 +75,4 @@ def read(path=LIST):
     missing = [name for name, state in STATES.items() if state not in passes]
     if missing:
         raise Fault(f"{path.name}: no line says what passes in state {missing[0]}")
-    return moves, passes
+    return List(moves, queries, passes)

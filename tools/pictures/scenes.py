@@ -14,8 +14,12 @@ OWN = {"ap": AP, "station": STATION}
 ROLE = {"ap": bench.ACCESS_POINT, "station": bench.STATION}
 
 # side: whose table; event: ("ask", primitive, code), ("hear", octets) or ("clock", TU);
-# answer: the bench line without its number; sent: the octets written; hold: the peer's after it.
-Step = collections.namedtuple("Step", "side event answer sent hold", defaults=(b"", 0))
+# answer: the bench line without its number; sent: the octets written; hold and query: the peer's after
+# it, a query as its identifier, its case and what is left; forged: whether somebody else sent the frame.
+Step = collections.namedtuple("Step", "side event answer sent hold query forged",
+                              defaults=(b"", 0, (0, 0, 0), False))
+# The rule is edition and protection of the access point's settings.
+Scene = collections.namedtuple("Scene", "steps rule", defaults=((),))
 
 
 def authentication(to, sender, transaction):
@@ -77,6 +81,42 @@ COMEBACK_5 = rejected(5, 5) + (
 NO_COMEBACK = rejected(None, 1954)
 
 
+# A request to rejoin in the address of a scanner that has joined. Without protection it is thrown out.
+JOINED = tuple(step for step in JOIN if step.side == "ap")
+DATA = bench.data(AP, STATION)
+THROWN_OUT = (
+    Step("ap", ("hear", REQUEST), "0 A 5 0 0 - 4", forged=True),
+    Step("ap", ("ask", 7, 17), "0 - 0 0 30 L 2", bench.association_response(STATION, AP, 17, 0)),
+    Step("ap", ("hear", DATA), "0 D 0 0 26 - 2",
+         bench.management(bench.DISASSOCIATION, STATION, AP, bench.number(7), third=AP)),
+)
+
+# With protection the scanner is asked first. What its own table hears is what the AP's wrote.
+QUERY = bench.management(bench.ACTION, STATION, AP, b"\x08\0\1\0", third=AP)
+ANSWER = bench.sa_query(AP, STATION, bench.QUERY_RESPONSE, 1)
+PUT_OFF = rejection(1000)
+BEGUN = (
+    Step("ap", ("hear", REQUEST), "0 A 0 0 37 - 4", PUT_OFF, query=(1, 2, 1000), forged=True),
+    Step("ap", ("ask", 11, 0), "0 - 0 0 28 - 4", QUERY, query=(1, 1, 1000)),
+)
+ASKED_FIRST = BEGUN + (
+    Step("station", ("hear", QUERY), "0 A 0 0 28 - 4", ANSWER),
+    Step("ap", ("hear", ANSWER), "0 A 0 0 0 - 4", query=(1, 0, 0)),
+    Step("ap", ("hear", DATA), "0 A 0 0 0 - 4", query=(1, 0, 0)),
+)
+
+# Not drawn, but what the chart says of a query that nobody answers rests on it: a retry, the end, and a
+# request that passes.
+RETRY, MAXIMUM = 201, 1000
+UNANSWERED = BEGUN + (
+    Step("ap", ("clock", RETRY - 1), "0 - 0 0 0 - 0", query=(1, 1, MAXIMUM - RETRY + 1)),
+    Step("ap", ("clock", 1), "0 - 0 0 8 - 0", b"\0\4" + STATION, query=(1, 2, MAXIMUM - RETRY)),
+    Step("ap", ("ask", 11, 0), "0 - 0 0 28 - 4", QUERY, query=(1, 1, MAXIMUM - RETRY)),
+    Step("ap", ("clock", MAXIMUM - RETRY), "0 - 0 0 8 - 0", b"\0\5" + STATION, query=(1, 3, 0)),
+    Step("ap", ("hear", REQUEST), "0 A 5 0 0 - 4", query=(1, 0, 0)),
+)
+
+
 def record(step):
     """The bench record of a step; a primitive is about the other side."""
     kind, *rest = step.event
@@ -85,12 +125,17 @@ def record(step):
     return bench.frame(rest[0]) if kind == "hear" else bench.clock(rest[0])
 
 
-def bench_input(steps, side):
+def bench_input(scene, side):
     """The bench input of one side's steps."""
-    return b"".join([bench.settings(ROLE[side], OWN[side])]
-                    + [record(step) for step in steps if step.side == side])
+    rule = scene.rule if side == "ap" else ()
+    return b"".join([bench.settings(ROLE[side], OWN[side], 0, 100, 100, *rule)]
+                    + [record(step) for step in scene.steps if step.side == side])
 
 
 # Each scene by its name, from the empty table on.
-SCENES = {"join": JOIN, "comeback 0": AUTHENTICATED + COMEBACK_0,
-          "comeback 5": AUTHENTICATED + COMEBACK_5, "no comeback": AUTHENTICATED + NO_COMEBACK}
+SCENES = {"join": Scene(JOIN), "comeback 0": Scene(AUTHENTICATED + COMEBACK_0),
+          "comeback 5": Scene(AUTHENTICATED + COMEBACK_5),
+          "no comeback": Scene(AUTHENTICATED + NO_COMEBACK),
+          "thrown out": Scene(JOINED + THROWN_OUT, (1, 0)),
+          "asked first": Scene(JOIN + ASKED_FIRST, (2, 1)),
+          "unanswered": Scene(JOINED + UNANSWERED, (2, 1))}

@@ -6,6 +6,7 @@ from .conditions import TAGS, condition
 from .labels import Label, block, block_size, mark
 from .move_list import Fault
 from .notes import NOTES, belied
+from .queries import QUERY_HEIGHT, query_panel
 from .svg import AMBER, MUTED, PAPER, Canvas
 
 WIDTH, HEIGHT = 1280, 954
@@ -138,10 +139,10 @@ def past_state_3(canvas, arrow_, edge):
     block(canvas, bus + 10, (middle(2) + middle(4)) / 2 - high / 2, arrow_.labels)
 
 
-def notes(canvas, role, moves):
+def notes(canvas, role, listed):
     """The sentences of a role, each held against the list first."""
-    if belied(role, moves):
-        raise Fault(f"states: the list of moves belies the note '{belied(role, moves)}'")
+    if belied(role, listed):
+        raise Fault(f"states: the list of moves belies the note '{belied(role, listed)}'")
     y = NOTES_Y
     for lines, _ in NOTES[role]:
         canvas.put("circle", cx=float(NOTES_X - 12), cy=float(y - 4), r=2.5, fill=MUTED)
@@ -152,7 +153,7 @@ def notes(canvas, role, moves):
 
 
 def legend(canvas, holds):
-    y = HEIGHT - 44
+    y = canvas.height - 44
     canvas.line([(24, y - 32), (WIDTH - 24, y - 32)], "#d8dee4", head=False, thin=True)
     x = 34
     for kind, words, wide in (("frame", "a frame heard from the peer", 212),
@@ -173,14 +174,17 @@ def legend(canvas, holds):
                 "program by tests/pictures/moves.py. What is not shown moves no state.", 11.5, fill=MUTED)
 
 
-def picture(role, moves, passes):
-    canvas = Canvas(WIDTH, HEIGHT, TITLES[role], "States, and every cause of a move between them.")
+def picture(role, listed):
+    """At an access point with what becomes of a query below."""
+    moves, with_query = listed.moves, role == 1
+    canvas = Canvas(WIDTH, HEIGHT + with_query * QUERY_HEIGHT, TITLES[role],
+                    "States, and every cause of a move between them.")
     canvas.text(34, 42, TITLES[role], 20, bold=True)
     canvas.text(34, 65, "Each arrow is a move of the state in the peer's record, and beside it "
                 "stands what causes it.", fill=MUTED)
-    notes(canvas, role, moves)
+    notes(canvas, role, listed)
     drawn = arrows(role, moves)
-    boxes(canvas, passes)
+    boxes(canvas, listed.passes)
     straight(canvas, drawn[(0,), 1], DOWN, "right")
     straight(canvas, drawn[(1,), 0], UP, "right")
     straight(canvas, drawn[(1,), 2], DOWN, "right")
@@ -189,5 +193,7 @@ def picture(role, moves, passes):
     straight(canvas, drawn[(4,), 3], UP, "left", 0.8)
     to_state_1(canvas, drawn[(2, 3, 4), 1])
     past_state_3(canvas, drawn[(2,), 4], to_state_2(canvas, drawn[(3, 4), 2]))
+    if with_query:
+        query_panel(canvas, HEIGHT - 88, listed.queries)
     legend(canvas, any(move.role == role and move.hold != ("kept",) for move in moves))
     return canvas

@@ -4,12 +4,16 @@ NAMES = {0: "Association request", 1: "Association response", 10: "Disassociatio
          11: "Authentication", 12: "Deauthentication"}
 PRIMITIVES = {1: "AUTHENTICATE.request", 2: "AUTHENTICATE.response, status {}",
               4: "ASSOCIATE.request", 7: "ASSOCIATE.response, status {}",
-              10: "transmit report, {}"}
+              10: "transmit report, {}", 11: "SA-QUERY.request"}
 REPORTS = ("not acknowledged", "acknowledged")
 NOTICES = {1: "AUTHENTICATE.indication", 2: "AUTHENTICATE.confirm, status {}",
            5: "ASSOCIATE.indication", 6: "ASSOCIATE.confirm, status {}"}
 REFUSALS = {7: "refused 7: no matching exchange", 8: "refused 8: the hold runs",
             9: "refused 9: an exchange is under way"}
+
+
+QUERIES = {1: "query sent", 2: "query due", 3: "query timed out"}
+ACTIONS = ("SA Query request", "SA Query response")
 
 
 def field(octets, at, count=2):
@@ -27,6 +31,8 @@ def frame_words(octets):
     kind, subtype = octets[0] >> 2 & 3, octets[0] >> 4
     if kind:
         return {(1, 13): "ACK, by the radio", (2, 0): "Data"}[kind, subtype]
+    if subtype == 13:
+        return f"{ACTIONS[octets[25]]}, identifier {field(octets, 26)}"
     name = NAMES[subtype]
     if subtype == 11:
         transaction, status = field(octets, 26), field(octets, 28)

@@ -4,13 +4,16 @@ import collections
 import re
 import subprocess
 
-Record = collections.namedtuple("Record", "place address state exchange left hold")
+# The query is 0 none, 1 running, 2 running with its request due, 3 timed out.
+Record = collections.namedtuple("Record", "place address state exchange left hold identifier query "
+                                "query_left", defaults=(0, 0, 0))
 Answer = collections.namedtuple(
     "Answer", "number refusal verdict notice code written ds state octets current table")
 
 LINE = re.compile(r"(\d+) (\d+) ([AD-]) (\d+) (\d+) (\d+) ([JL-]) (\d+)")
 TRACE = re.compile(r"  (?:(octets|current) ([0-9a-f]+)|"
-                   r"place (\d+) ([0-9a-f]{12}) (\d+) (\d+) (\d+) (\d+))")
+                   r"place (\d+) ([0-9a-f]{12}) (\d+) (\d+) (\d+) (\d+)|"
+                   r"query (\d+) (\d+) (\d+) (\d+))")
 SECONDS = 120
 
 
@@ -40,13 +43,21 @@ def _event(found):
 
 
 def _add(event, found):
-    what, digits, place, address = found.group(1, 2, 3, 4)
+    """One line of the trace. That of a query is about the place of the last line; says whether it is."""
+    what, digits, place, address, query = found.group(1, 2, 3, 4, 9)
+    table = event["table"]
     if what:
         event[what] = bytes.fromhex(digits)
-        return
-    octets = bytes.fromhex(address)
-    numbers = (int(text) for text in found.group(5, 6, 7, 8))
-    event["table"][octets] = Record(int(place), octets, *numbers)
+    elif address:
+        octets = bytes.fromhex(address)
+        numbers = (int(text) for text in found.group(5, 6, 7, 8))
+        table[octets] = Record(int(place), octets, *numbers)
+    else:
+        last = list(table.values())[-1] if table else None
+        if last is None or last.place != int(query):
+            return False
+        table[last.address] = Record(*last[:6], *(int(text) for text in found.group(10, 11, 12)))
+    return True
 
 
 def read(printed, events):
@@ -56,9 +67,7 @@ def read(printed, events):
         event, trace = LINE.fullmatch(line), TRACE.fullmatch(line)
         if event:
             found.append(_event(event))
-        elif trace and found:
-            _add(found[-1], trace)
-        else:
+        elif not (trace and found and _add(found[-1], trace)):
             raise BenchFault(f"the bench program printed '{line}', which is no line of its trace")
     if [event["number"] for event in found] != list(range(1, events + 1)):
         raise BenchFault(f"the bench program gave {len(found)} answers to {events} events")

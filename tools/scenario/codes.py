@@ -4,6 +4,9 @@ ROLES = {1: "AP", 2: "station"}
 STATES = {1: "not authenticated", 2: "authenticated", 3: "associated, RSNA not yet established",
           4: "associated"}
 KINDS = {1: "authentication", 2: "association", 3: "reassociation"}
+# What a clock step reports, by kind.
+REPORTS = {**{kind: f"timed out: {name}" for kind, name in KINDS.items()},
+           4: "retry reached: SA Query", 5: "timed out: SA Query"}
 
 # A notice's name, and the name of its code where it has one.
 NOTICES = {
@@ -58,6 +61,7 @@ REFUSAL_7 = {
     8: "the peer has not asked for reassociation",
     9: "the peer is not in State 3 or 4",
     10: "no response to this peer awaits its acknowledgement",
+    11: "no SA Query request to this peer is due",
 }
 
 

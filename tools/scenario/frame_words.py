@@ -23,6 +23,8 @@ TABLE = [
     Word("auth-response", _M, 11, 1, "Authentication, transaction 2"),
     Word("deauth", _M, 12, 1, "Deauthentication"),
     Word("public-action", _M, 13, 1, "Action of category 4; class 3 where protected, flags=0x40"),
+    Word("sa-query-request", _M, 13, 3, "Action of category 8, SA Query request"),
+    Word("sa-query-response", _M, 13, 3, "Action of category 8, SA Query response"),
     Word("action", _M, 13, 3, "Action"),
     Word("action-no-ack", _M, 14, 3, "Action No Ack"),
     Word("block-ack-request", _C, 8, 3, "Block Ack Request"),
@@ -50,6 +52,10 @@ TABLE = [
     Word("qos-cf-ack-poll", _D, 15, 3, "QoS CF-Ack +CF-Poll, no data"),
 ]
 BY_WORD = {row.word: row for row in TABLE}
+# The first octets of an Action's body that a word stands for; an SA Query's identifier follows them.
+QUERIES = {"sa-query-request": bytes((bench.SA_QUERY, bench.QUERY_REQUEST)),
+           "sa-query-response": bytes((bench.SA_QUERY, bench.QUERY_RESPONSE))}
+HEADS = {"public-action": bytes((bench.PUBLIC,)), **QUERIES}
 
 ALL_FIELDS = [
     Field("from", "address", 0, "the sender, Address 2"),
@@ -67,7 +73,8 @@ ALL_FIELDS = [
     Field("comeback", "number", 0xFFFFFFFF, "Timeout Interval element, type 3, with this time in TU"),
     Field("elements", "octets", 0, "further octets behind the fixed fields: 38050300 is a cut element"),
     Field("category", "number", 0xFF, "the first octet of an Action's body: none if not given"),
-    Field("body", "octets", 0, "the octets behind the header, or behind the category, hexadecimal"),
+    Field("id", "number", 0xFFFF, "the identifier of an SA Query: 1, a record's first, if not given"),
+    Field("body", "octets", 0, "the octets behind the header, the category or the id, hexadecimal"),
     Field("to-ds", "number", 1, "1 of a data frame to an AP, else 0, if not given"),
     Field("from-ds", "number", 1, "1 of a data frame to a station, else 0, if not given"),
     Field("version", "number", 3, "0 if not given"),
@@ -97,7 +104,8 @@ def own_fields(row):
     names = ["from", "to"] if has_sender(row) else ["to"]
     body = fixed(row)
     if not body:
-        return names + (["category"] if row.word in ("action", "action-no-ack") else []) + ["body"]
+        first = ["category"] if row.word in ("action", "action-no-ack") else []
+        return names + (["id"] if row.word in QUERIES else first) + ["body"]
     if "aid" in body:
         body = body + ["aid-field", "comeback"]
     return names + body + ["elements"]

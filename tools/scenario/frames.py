@@ -21,7 +21,7 @@ def default(row, name, settings, given):
              "capability": 0x0011 if settings.rsna == 1 else 0x0001, "listen-interval": 10,
              "transaction": 1 if row.word == "auth-request" else 2,
              "aid": 0 if given.get("status") else 1,
-             "reason": 8 if row.word == "disassoc" else 3,
+             "reason": 8 if row.word == "disassoc" else 3, "id": 1,
              "elements": b"", "body": b"", "comeback": None, "aid-field": None, "category": None,
              "length": None}
     if row.type == bench.DATA:
@@ -52,8 +52,9 @@ def _aid_field(fields):
 
 def _body(row, fields):
     if "body" in fields:
-        category = bench.PUBLIC if row.word == "public-action" else fields.get("category")
-        return (b"" if category is None else bytes((category,))) + fields["body"]
+        category = fields.get("category")
+        head = frame_words.HEADS.get(row.word, b"" if category is None else bytes((category,)))
+        return head + (bench.number(fields["id"]) if "id" in fields else b"") + fields["body"]
     laid = {name.replace("-", "_"): fields.get(name) for name in frame_words.fixed(row)}
     rest = fields["elements"]
     if "aid" in laid:
@@ -82,17 +83,22 @@ def encode(row, fields):
 
 
 def word_of(octets):
-    """The row of the frame's type and subtype; None where it has no class. Where two rows share them,
-    the first is that of transaction 1, or of category 4."""
+    """The row of the frame's type and subtype; None where it has no class. Where rows share them, the
+    first that the octets fit: transaction 1, or an Action's first octets; the last fits all."""
     if len(octets) < 2:
         return None
     wanted = octets[0] >> 2 & 3, octets[0] >> 4
     rows = [row for row in frame_words.TABLE if (row.type, row.subtype) == wanted]
-    if len(rows) == 2:
-        action = rows[0].subtype == bench.ACTION
-        first = octets[24:25] == bytes((bench.PUBLIC,)) if action else octets[26:28] == bench.number(1)
-        return rows[0] if first else rows[1]
-    return rows[0] if rows else None
+    return next((row for row in rows if row is rows[-1] or _fits(row, octets)), None)
+
+
+def _fits(row, octets):
+    """Whether a row that shares its type and subtype with others is the one for these octets."""
+    if row.word == "auth-request":
+        return octets[26:28] == bench.number(1)
+    head = frame_words.HEADS[row.word]
+    whole = len(octets) >= 28 if row.word in frame_words.QUERIES else True
+    return whole and octets[24:24 + len(head)] == head
 
 
 def names_peer(octets):
@@ -103,6 +109,8 @@ def names_peer(octets):
 
 def _split_body(row, rest):
     """The fields of a body; None where it is too short for them."""
+    if row.word in frame_words.QUERIES:
+        return {"id": int.from_bytes(rest[2:4], "little"), "body": rest[4:]}
     if row.word == "public-action":
         return {"body": rest[1:]}
     if "category" in frame_words.fields_of(row):

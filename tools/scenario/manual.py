@@ -25,6 +25,8 @@ Settings come first: 'ap' or 'station' (or 'settings role=N') with own=ADDRESS, 
 given) and timeouts=AUTHENTICATION,ASSOCIATION in TU (100,100). A TU is 1,024 microseconds. Also
 edition=1|2 (1) and protection=0|1 (0): the rule for an association that an AP rejects. Edition 1 puts the
 peer to State 2; edition 2 puts State 4 to 3 and keeps others, with protection it keeps State 4 too.
+query-retry=TU (201) and query-maximum=TU (1000) are the times of an SA Query: with edition 2 and protection
+an AP answers a request in State 4 with status 30 and asks the peer first.
 Another settings line begins anew: an empty table, events counted from 1, the names kept.
 
   name NAME = ADDRESS              a name for an address; 'own' and 'broadcast' have theirs

@@ -17,6 +17,7 @@ TABLE = [
     Primitive(8, "respond-reassociate", "REASSOCIATE.response", "status", 0, "AP"),
     Primitive(9, "set-protection", "SETPROTECTION Rx_Tx", "code", 0, "both"),
     Primitive(10, "report", "transmit report", "acknowledged", 1, "AP"),
+    Primitive(11, "query", "SA-QUERY.request", "code", 0, "AP"),
 ]
 BY_WORD = {row.word: row for row in TABLE}
 BY_NUMBER = {row.number: row for row in TABLE}

@@ -12,11 +12,14 @@ from .values import Fault, Names, number, octets, one_of
 Event = collections.namedtuple("Event", "record kind peer primitive frame raw")
 # A line, its events, and the settings that it gives, None where it gives none.
 Line = collections.namedtuple("Line", "text events settings")
-# Edition and protection are None where they are not given; the record is the bench's.
-Settings = collections.namedtuple("Settings", "role own rsna timeouts edition protection record")
+# The rule, edition, protection and a query's two times, has None where they are not given; the record
+# is the bench's.
+Settings = collections.namedtuple("Settings", "role own rsna timeouts rule record")
 
 ROLES = {"ap": bench.ACCESS_POINT, "station": bench.STATION}
-SETTINGS = ["own", "rsna", "timeouts", "edition", "protection"]
+# The words of the rule, with the highest number that each field can hold.
+RULE = {"edition": 0xFF, "protection": 0xFF, "query-retry": 0xFFFF, "query-maximum": 0xFFFF}
+SETTINGS = ["own", "rsna", "timeouts", *RULE]
 FIRST = "ap, station or settings"
 VERBS = ("name", "ap", "station", "settings", "frame", "prim", "clock")
 
@@ -85,9 +88,9 @@ class Reader:
         if len(times) != 2:
             raise Fault("timeouts are two numbers, authentication and association: timeouts=100,100")
         times = [number(time, "timeouts", 0xFFFF) for time in times]
-        rule = [number(given[name], name, 255) if name in given else None
-                for name in ("edition", "protection")]
-        return Settings(role, own, rsna, times, *rule, bench.settings(role, own, rsna, *times, *rule))
+        rule = [number(given[name], name, highest) if name in given else None
+                for name, highest in RULE.items()]
+        return Settings(role, own, rsna, times, rule, bench.settings(role, own, rsna, *times, *rule))
 
     def _single(self, text, what):
         found = self.names.find(text, what)

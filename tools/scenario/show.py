@@ -1,5 +1,7 @@
 """The scenario told back: its own lines, and below each what the table answered."""
 
+from tools import bench_input as bench
+
 from . import codes, merge, words
 
 INDENT = "    "
@@ -54,11 +56,15 @@ def _settings(settings, again):
     rsna = {0: "not required", 1: "required"}.get(settings.rsna, str(settings.rsna))
     text = (f"{INDENT}{'with an empty table again: ' if again else ''}{role}, RSNA {rsna}, timeouts: "
             f"authentication {settings.timeouts[0]} TU, association {settings.timeouts[1]} TU")
-    if settings.edition is None and settings.protection is None:
+    if not any(value is not None for value in settings.rule):
         return text
-    edition = 1 if settings.edition is None else settings.edition
-    protection = settings.protection or 0
-    return f"{text}, edition {edition}, {PROTECTION.get(protection, f'protection {protection}')}"
+    edition, protection, retry, maximum = (
+        usual if value is None else value for value, usual in zip(settings.rule, bench.USUAL_RULE))
+    text += f", edition {edition}, {PROTECTION.get(protection, f'protection {protection}')}"
+    in_force = (settings.role, edition, protection) == (bench.ACCESS_POINT, 2, 1)
+    if not in_force and settings.rule[2:] == [None, None]:
+        return text
+    return f"{text}, SA Query: retry {retry} TU, maximum {maximum} TU"
 
 
 def transcript(reader, lines, answers, with_table=False):

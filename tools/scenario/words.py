@@ -31,9 +31,18 @@ def exchange(record):
     return f"{kind} request sent, {record.left} TU left for the answer"
 
 
-def details(record, no_hold=""):
-    """Exchange and hold, each behind a comma; no_hold is said where there is none."""
-    parts = [exchange(record), f"hold {record.hold} TU" if record.hold else no_hold]
+def query(record):
+    """The SA Query of a record, '' where there is none."""
+    number = f"SA Query {record.identifier}"
+    return {0: "", 1: f"{number} runs, {record.query_left} TU left for the answer",
+            2: f"{number} runs, its request is due, {record.query_left} TU left",
+            3: f"{number} timed out: the next request passes"}[record.query]
+
+
+def details(record, no_hold="", no_query=""):
+    """Exchange, hold and query, each behind a comma; no_hold and no_query are said where there is none."""
+    parts = [exchange(record), f"hold {record.hold} TU" if record.hold else no_hold,
+             query(record) or no_query]
     return "".join(", " + part for part in parts if part)
 
 
@@ -45,7 +54,8 @@ def change(name, old, new, rejected=False):
         return f"{name}: new record in place {new.place}, {state(new.state)}{details(new)}"
     moved = "stays in " if old.state == new.state else f"State {old.state} -> "
     no_hold = "no hold" if rejected else "hold over" if old.hold else ""
-    return f"{name}: {moved}{state(new.state)}{details(new, no_hold)}"
+    no_query = {0: "", 3: "the timed-out SA Query is used up"}.get(old.query, "SA Query over")
+    return f"{name}: {moved}{state(new.state)}{details(new, no_hold, no_query)}"
 
 
 def shortened(octets):
@@ -85,12 +95,13 @@ def sent(octets, say):
 
 
 def reports(octets, say):
-    """The timeouts of a clock step."""
+    """The reports of a clock step: what timed out, and where a query's request is due again."""
     lines = []
     for at in range(0, len(octets), REPORT_OCTETS):
         place, kind = octets[at], octets[at + 1]
         peer = say(octets[at + 2:at + REPORT_OCTETS])
-        lines.append(f"timed out: {codes.KINDS.get(kind, kind)} with {peer}, place {place}")
+        what = codes.REPORTS.get(kind, f"report of kind {kind}:")
+        lines.append(f"{what} with {peer}, place {place}")
     return merge.lines(lines)
 
 

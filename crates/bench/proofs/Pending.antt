@@ -1,4 +1,4 @@
--- Where there is room for all lines, what is pending is what was pending before and then the lines; and an event asks for 2,752 octets.
+-- Where there is room for all lines, what is pending is what was pending before and then the lines; and an event asks for 4,800 octets.
 -- Assumes nothing.
 use Prim.Native.Nat.{ℕ, _+_, _*_, _≤_}
 use mathlib.Core.Path.{_≡_, refl, sym, ap, _∙_}
@@ -15,13 +15,13 @@ use Rattle.peer.specs.declared.record.Record.{Record}
 use Rattle.table.specs.declared.rules.answer.Answer.{Answer}
 use Rattle.table.specs.declared.rules.event.Event.{Event}
 use Rattle.bench.specs.Line.{lineOf}
-use Rattle.bench.specs.Output.{Output, Line, upTo, putOf, putAll, pending, said, roomFor}
+use Rattle.bench.specs.Output.{Output, Line, upTo, putOf, putAll, pending, said, roomFor, short}
 use Rattle.bench.specs.Play.{numberAfter}
 use Rattle.bench.specs.Run.{playedOf, scratchOf, eventLines, eventOutput}
-use Rattle.bench.specs.Trace.{placeLine, octetsLines, currentLines, placeLines, tableLines, traceLines}
+use Rattle.bench.specs.Trace.{currentLines, hasQuery, octetsLines, placeLine, placeLines, queryLine, queryLines, tableLines, traceLines}
 use Rattle.bench.specs.declared.run.Run.{Run}
 use Rattle.bench.proofs.Lines.{front-length, back-length}
-use Rattle.bench.proofs.TraceLines.{octets-line-length, current-line-length, name-length, times-length}
+use Rattle.bench.proofs.TraceLines.{octets-line-length, current-line-length, name-length, times-length, query-name-length, query-times-length}
 
 -- No line is longer than the room that it asks for.
 pub data Fitting : List Line → Type 0 where
@@ -101,18 +101,32 @@ place-length : (i : ℕ) (p : Record) → length (placeLine i p) ≤ 64
 unfolding placeLine
 place-length i p = simp length-append (omega (arith, name-length i p, times-length p))
 
-table-within : (i : ℕ) (t : List Record) → Within (64 * length t) (tableLines i t)
-unfolding tableLines placeLines
+query-length : (i : ℕ) (p : Record) → length (queryLine i p) ≤ 64
+unfolding queryLine
+query-length i p = simp length-append (omega (arith, query-name-length i p, query-times-length p))
+
+query-within : (i : ℕ) (p : Record) → Within 64 (queryLines i p)
+unfolding queryLines
+query-within i p = pick-by (Within 64) (hasQuery p) (λ e. one-line _ (query-length i p) (omega arith)) (λ e. no-line)
+
+place-within : (i : ℕ) (p : Record) → Within 128 (placeLines i p)
+unfolding placeLines
+place-within i p =
+    pick-by (Within 128) (isFree p) (λ e. no-line)
+    (λ e. both {m = 64} (one-line (short (placeLine i p)) (place-length i p) (omega arith)) (query-within i p))
+
+table-within : (i : ℕ) (t : List Record) → Within (128 * length t) (tableLines i t)
+unfolding tableLines
 table-within i [] = no-line
 table-within i (p ∷ t) =
-    let w = both (pick-by (Within 64) (isFree p) (λ e. no-line) (λ e. one-line _ (place-length i p) (omega arith))) (table-within (i + 1) t) in
+    let w = both (place-within i p) (table-within (i + 1) t) in
     record { fits = w .fits; asks = omega (arith, w .asks) }
 
 line-length : (n : ℕ) (a : Answer) → length (lineOf n a) ≤ 64
 unfolding lineOf
 line-length n a = simp length-append (omega (arith, front-length n a, back-length a))
 
-trace-within : (a : Answer) (s : List ℕ) (t : List Record) → length s ≡ 256 → length t ≡ 32 → Within 2688 (traceLines a s t)
+trace-within : (a : Answer) (s : List ℕ) (t : List Record) → length s ≡ 256 → length t ≡ 32 → Within 4736 (traceLines a s t)
 unfolding traceLines
 trace-within a s t h g =
     let w = both (both (octets-within (a .written) s h) (current-within a)) (table-within 0 t) in
@@ -120,13 +134,13 @@ trace-within a s t h g =
 
 -- An event of a table of 32 records.
 module _ (r : Run) (e : Event) (xs : List ℕ) (h : length (scratchOf r e xs) ≡ 256) (g : length (playedOf r e xs .table) ≡ 32) where
-  pub event-within : Within 2752 (eventLines r e xs)
+  pub event-within : Within 4800 (eventLines r e xs)
   unfolding eventLines
   event-within =
       both {m = 64} (one-line _ (line-length (numberAfter (r .number)) (playedOf r e xs .answer)) (omega arith))
-      (pick-by (Within 2688) (r .trace) (λ b. trace-within (playedOf r e xs .answer) (scratchOf r e xs) (playedOf r e xs .table) h g) (λ b. no-line))
+      (pick-by (Within 4736) (r .trace) (λ b. trace-within (playedOf r e xs .answer) (scratchOf r e xs) (playedOf r e xs .table) h g) (λ b. no-line))
 
   -- What an event adds to the octets to be written out: its lines, whole.
-  pub event-pending : (l : List ℕ) → r .out + 2752 ≤ length l → pending (eventOutput r e xs l) ≡ take (r .out) l ++ said (eventLines r e xs)
+  pub event-pending : (l : List ℕ) → r .out + 4800 ≤ length l → pending (eventOutput r e xs l) ≡ take (r .out) l ++ said (eventLines r e xs)
   unfolding eventOutput
   event-pending l k = let w = event-within in pending-all (eventLines r e xs) (upTo l (r .out)) (w .fits) (omega (arith, w .asks))

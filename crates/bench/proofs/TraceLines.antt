@@ -6,9 +6,10 @@ use native.Mathlib.Omega.{arith}
 use lib.ListN.{length, length-append}
 use Rattle.octets.specs.Field.{octets}
 use Rattle.octets.proofs.Le.{length-octets}
+use Rattle.peer.specs.Query.{queryLeft, queryNumber}
 use Rattle.peer.specs.Record.{exchangeNumber}
 use Rattle.peer.specs.declared.record.Record.{Record}
-use Rattle.bench.specs.Trace.{octetsLine, currentLine, nameOf, timesOf}
+use Rattle.bench.specs.Trace.{octetsLine, currentLine, nameOf, timesOf, queryName, queryTimes}
 use Rattle.bench.proofs.Digits.{field-length, tens-length}
 use Rattle.bench.proofs.Puts.{hex-length}
 
@@ -30,3 +31,12 @@ unfolding timesOf
 times-length p =
     simp length-append
     (omega (arith, field-length 3 (p .state), field-length 3 (exchangeNumber (p .exchange)), field-length 5 (p .left), tens-length 10 (p .hold)))
+
+pub query-name-length : (place : ℕ) (p : Record) → length (queryName place p) ≤ 24
+unfolding queryName
+query-name-length place p = simp length-append (omega (arith, field-length 2 place, field-length 5 (p .identifier)))
+
+pub query-times-length : (p : Record) → length (queryTimes p) ≤ 25
+unfolding queryTimes
+query-times-length p =
+    simp length-append (omega (arith, field-length 3 (queryNumber (p .query)), tens-length 5 (queryLeft (p .query))))

@@ -1,11 +1,13 @@
 -- The trace: lines behind an event's line, for what it does not show.
 -- Assumes nothing.
 use Prim.Native.Nat.{ℕ, _+_, _*_}
+use mathlib.Core.Bool.{Bool, not, _||_}
 use mathlib.Core.List.{List, [], _∷_, _++_}
 use lib.Dec.{ltb, eqb}
 use lib.ListN.{length, take}
 use Rattle.octets.specs.Pick.{pick}
 use Rattle.octets.specs.Field.{octets}
+use Rattle.peer.specs.Query.{queryLeft, queryNumber}
 use Rattle.peer.specs.Record.{exchangeNumber, isFree}
 use Rattle.peer.specs.declared.record.Record.{Record}
 use Rattle.table.specs.declared.rules.answer.Answer.{Answer}
@@ -40,6 +42,19 @@ timesOf p =
 unfoldable pub placeLine : ℕ → Record → List ℕ
 placeLine place p = nameOf place p ++ timesOf p
 
+-- "  query ", the place, the identifier, the query's number and what is left of it
+abbrev pub queryWord : List ℕ
+queryWord = 32 ∷ 32 ∷ 113 ∷ 117 ∷ 101 ∷ 114 ∷ 121 ∷ 32 ∷ []
+
+unfoldable pub queryName : ℕ → Record → List ℕ
+queryName place p = queryWord ++ fieldOf 2 place ++ fieldOf 5 (p .identifier)
+
+unfoldable pub queryTimes : Record → List ℕ
+queryTimes p = fieldOf 3 (queryNumber (p .query)) ++ tens 5 (queryLeft (p .query)) ++ (10 ∷ [])
+
+unfoldable pub queryLine : ℕ → Record → List ℕ
+queryLine place p = queryName place p ++ queryTimes p
+
 -- A line of n octets in hexadecimal is under 2 n + 64 octets long.
 abbrev pub octetsPut : List ℕ → Line
 octetsPut vs = record { room = 2 * length vs + 64; text = octetsLine vs }
@@ -54,9 +69,16 @@ octetsLines written scratch =
 unfoldable pub currentLines : Answer → List Line
 currentLines a = pick (eqb (a .notice) 7) (short (currentLine (a .current)) ∷ []) []
 
+-- "query": where there is one, or was
+unfoldable pub hasQuery : Record → Bool
+hasQuery p = not (eqb (p .identifier) 0) || not (eqb (queryNumber (p .query)) 0)
+
+unfoldable pub queryLines : ℕ → Record → List Line
+queryLines i p = pick (hasQuery p) (short (queryLine i p) ∷ []) []
+
 -- "place": those that are not free, in rising order
 unfoldable pub placeLines : ℕ → Record → List Line
-placeLines i p = pick (isFree p) [] (short (placeLine i p) ∷ [])
+placeLines i p = pick (isFree p) [] (short (placeLine i p) ∷ queryLines i p)
 
 unfoldable pub tableLines : ℕ → List Record → List Line
 tableLines i [] = []

@@ -62,6 +62,8 @@ impl Run {
                 rsna: 0,
                 edition: 0,
                 protection: 0,
+                retry: 0,
+                maximum: 0,
             },
             table: [vacant(); 32],
             number: 0,

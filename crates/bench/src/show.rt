@@ -2,12 +2,14 @@
 use crate::trace::write_current;
 use crate::trace::write_octets;
 use crate::trace::write_place;
+use crate::trace::write_query;
+use peer::query::query_number;
 use peer::record::Record;
 use peer::turn::Told;
 use table::rules::answer::Answer;
 ghost use mathlib.Core.Path.{_≡_};
 ghost use Rattle.bench.specs.Output.{upTo, putAll};
-ghost use Rattle.bench.specs.Trace.{octetsLines, currentLines, placeLines, tableLines, traceLines};
+ghost use Rattle.bench.specs.Trace.{octetsLines, currentLines, hasQuery, placeLines, queryLines, tableLines, traceLines};
 
 // The octets that an event wrote.
 fn trace_octets(output: &mut [u8], out: usize, written: u16, scratch: [u8; 256]) -> usize
@@ -33,6 +35,28 @@ fn trace_current(output: &mut [u8], out: usize, answer: Answer) -> usize
     write_current(output, out, answer.current)
 }
 
+// Whether there is a query, or was.
+fn has_query(p: Record) -> bool
+    ensures { λ r. ⌜ r ≡ hasQuery p ⌝ }
+{
+    let q = p.query;
+    if p.identifier != 0 {
+        return true;
+    }
+    query_number(q) != 0
+}
+
+// The query of a place, where there is one, or was.
+fn trace_query(output: &mut [u8], out: usize, place: u8, p: Record) -> usize
+    ensures { λ r. ⌜ upTo (now (output .exit)) r ≡ putAll (queryLines place p) (upTo (now (output .entry)) out) ⌝ }
+{
+    if has_query(p) {
+        write_query(output, out, place, p)
+    } else {
+        out
+    }
+}
+
 // A place that is not free.
 fn trace_place(output: &mut [u8], out: usize, place: u8, p: Record) -> usize
     ensures { λ r. ⌜ upTo (now (output .exit)) r ≡ putAll (placeLines place p) (upTo (now (output .entry)) out) ⌝ }
@@ -40,7 +64,8 @@ fn trace_place(output: &mut [u8], out: usize, place: u8, p: Record) -> usize
     if p.is_free() {
         return out;
     }
-    write_place(output, out, place, p)
+    let next = write_place(&mut *output, out, place, p);
+    trace_query(output, next, place, p)
 }
 
 // Every place, in rising order.

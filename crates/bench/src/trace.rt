@@ -6,6 +6,8 @@ use crate::text::put_hex_address;
 use crate::text::put_octet;
 use crate::text::put_tens;
 use crate::text::put_word;
+use peer::query::query_left;
+use peer::query::query_number;
 use peer::record::Record;
 use peer::record::exchange_number;
 ghost use mathlib.Core.Path.{_≡_};
@@ -13,7 +15,7 @@ ghost use Prim.Native.Nat.{_+_, _*_, _≤_};
 ghost use lib.ListN.{length};
 ghost use Rattle.octets.specs.Stored.{Stored};
 ghost use Rattle.bench.specs.Output.{short, upTo, putOf};
-ghost use Rattle.bench.specs.Trace.{octetsLine, octetsPut, currentLine, nameOf, timesOf, placeLine};
+ghost use Rattle.bench.specs.Trace.{octetsLine, octetsPut, currentLine, nameOf, timesOf, placeLine, queryName, queryTimes, queryLine};
 
 fn put_octets(out: &mut [u8], at: usize, octets: &[u8]) -> usize
     requires { ⌜ at + (2 * length (now octets) + 64) ≤ length (now out) ⌝ }
@@ -92,4 +94,37 @@ pub fn write_place(out: &mut [u8], at: usize, place: u8, p: Record) -> usize
     }
     let next = put_name(out, at, place, p);
     put_times(out, next, p)
+}
+
+// The place and the identifier of a query.
+fn put_query_name(out: &mut [u8], at: usize, place: u8, p: Record) -> usize
+    requires { ⌜ at + 64 ≤ length (now out) ⌝ }
+    ensures { λ r. ⌜ (r ≡ at + length (queryName place p)) × (Stored (now (out .entry)) at (queryName place p) (now (out .exit))) ⌝ }
+{
+    let p1 = put_word(out, at, b"  query ");
+    let p2 = put_field(out, p1, place as u64, 2);
+    put_field(out, p2, p.identifier as u64, 5)
+}
+
+// The number of a query, what is left of it, and the line's end.
+fn put_query_times(out: &mut [u8], at: usize, p: Record) -> usize
+    requires { ⌜ at + 25 ≤ length (now out) ⌝ }
+    ensures { λ r. ⌜ (r ≡ at + length (queryTimes p)) × (Stored (now (out .entry)) at (queryTimes p) (now (out .exit))) ⌝ }
+{
+    let q = p.query;
+    let p1 = put_field(out, at, query_number(q) as u64, 3);
+    let p2 = put_tens(out, p1, query_left(q) as u64, 5);
+    put_octet(out, p2, b'\n');
+    p2 + 1
+}
+
+// The same of the line of a query.
+pub fn write_query(out: &mut [u8], at: usize, place: u8, p: Record) -> usize
+    ensures { λ r. ⌜ upTo (now (out .exit)) r ≡ putOf (short (queryLine place p)) (upTo (now (out .entry)) at) ⌝ }
+{
+    if has_room(out.len(), at, 64) {} else {
+        return at;
+    }
+    let next = put_query_name(out, at, place, p);
+    put_query_times(out, next, p)
 }

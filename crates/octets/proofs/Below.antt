@@ -12,7 +12,7 @@ use lib.ListN.{length, take, drop}
 use borrow.Author.Tests.{ltb-true}
 use Rattle.octets.specs.Field.{le, field, allOctets, typeOf, subtypeOf}
 use Rattle.octets.specs.Element.{walk, wantedAt, comebackOf}
-use Rattle.octets.specs.Heard.{heardOf, managementOf, responseOf, authenticationOf}
+use Rattle.octets.specs.Heard.{heardOf, managementOf, queryOf, responseOf, authenticationOf}
 use Rattle.octets.specs.Read.{ComebackFits, HeardFits}
 use Rattle.octets.specs.declared.element.Comeback.the-variants.{Given}
 use Rattle.octets.specs.declared.heard.Kind.{Kind}
@@ -67,6 +67,14 @@ module _ (xs : List ℕ) (h : allOctets xs ≡ true) where
   unfolding authenticationOf
   authentication-fits = (field-below 2 24 xs h, field-below 2 26 xs h, field-below 2 28 xs h)
 
+  query-fits : HeardFits (queryOf xs)
+  unfolding queryOf
+  query-fits =
+      pick-both HeardFits (ltb (length xs) 28) tt
+      (pick-both HeardFits (eqb (field 1 24 xs) 8)
+      (pick-both HeardFits (eqb (field 1 25 xs) 0) (field-below 2 26 xs h)
+      (pick-both HeardFits (eqb (field 1 25 xs) 1) (field-below 2 26 xs h) tt)) tt)
+
   management-fits : (s : ℕ) → HeardFits (managementOf xs s)
   management-fits s =
       pick-both HeardFits (eqb s 0) (omega arith)
@@ -75,7 +83,8 @@ module _ (xs : List ℕ) (h : allOctets xs ≡ true) where
       (pick-both HeardFits (eqb s 3) (response-fits _)
       (pick-both HeardFits (eqb s 10) (field-below 2 24 xs h)
       (pick-both HeardFits (eqb s 11) authentication-fits
-      (pick-both HeardFits (eqb s 12) (field-below 2 24 xs h) tt))))))
+      (pick-both HeardFits (eqb s 12) (field-below 2 24 xs h)
+      (pick-both HeardFits (eqb s 13) query-fits tt)))))))
 
   pub heard-fits : HeardFits (heardOf xs)
   unfolding heardOf

@@ -13,13 +13,13 @@ use Rattle.octets.specs.Pick.{pick}
 use Rattle.octets.specs.Field.{le, octets, field}
 use Rattle.octets.specs.Element.{walk}
 use Rattle.octets.specs.Class.{classOf, isPublicAction}
-use Rattle.octets.specs.Frame.{aidField, headOf, bodyOf, bytesOf}
-use Rattle.octets.specs.Heard.{heardOf, responseOf, authenticationOf}
+use Rattle.octets.specs.Frame.{aidField, comebackElement, headOf, bodyOf, bytesOf}
+use Rattle.octets.specs.Heard.{heardOf, queryOf, responseOf, authenticationOf}
 use Rattle.octets.specs.Shape.{shapeOf, leastOf, leastManagement, isBare}
-use Rattle.octets.specs.Read.{bodyLike, frameLike, BodyFits, FrameFits, Says, Unheard, Reads, authentication, association-request, reassociation-request, association-response, reassociation-response, deauthentication, disassociation}
+use Rattle.octets.specs.Read.{bodyLike, frameLike, BodyFits, FrameFits, Says, Unheard, Reads, authentication, association-request, reassociation-request, association-response, reassociation-response, deauthentication, disassociation, association-later, reassociation-later, query-request, query-response, moreOf}
 use Rattle.octets.specs.declared.frame.Frame.{Frame}
 use Rattle.octets.specs.declared.frame.Body.{Body}
-use Rattle.octets.specs.declared.frame.Body.the-variants.{Authentication, AssociationRequest, ReassociationRequest, Response, Reason}
+use Rattle.octets.specs.declared.frame.Body.the-variants.{Authentication, AssociationRequest, ReassociationRequest, Response, Later, Reason, Query}
 use Rattle.octets.specs.declared.heard.Heard.{Heard}
 use Rattle.octets.specs.declared.shape.Shape.the-variants.{Full}
 use Rattle.octets.proofs.Branch.{by-bool}
@@ -41,12 +41,14 @@ top-back a h = by-bool (eqb a 0)
 
 -- the body, whatever 24 octets stand before it
 body-back : (f : Frame) (b : Body) → BodyFits b → bodyLike b (headOf f ++ bodyOf b) ≡ b
-unfolding octets headOf bodyOf
+unfolding octets headOf bodyOf comebackElement
 body-back f (Authentication a t s) h = cc (le-octets 2 a (h .0), le-octets 2 t (h .1), le-octets 2 s (h .2))
 body-back f (AssociationRequest c) h = cc (le-octets 2 c h)
 body-back f (ReassociationRequest c a) h = cc (le-octets 2 c (h .0), le-octets 6 a (h .1))
 body-back f (Response c s a) h = cc (le-octets 2 c (h .0), le-octets 2 s (h .1), aid-back a (h .2))
+body-back f (Later c s t) h = cc (le-octets 2 c (h .0), le-octets 2 s (h .1), le-octets 4 t (h .2))
 body-back f (Reason r) h = cc (le-octets 2 r h)
+body-back f (Query a i) h = let one : a + 256 * 0 ≡ a = omega arith in cc (one, le-octets 2 i h)
 
 module _ (f : Frame) (h : FrameFits f) where
   subtype-back : field 2 0 (bytesOf f) / 16 ≡ f .subtype
@@ -89,18 +91,22 @@ framed s a₁ a₂ a₃ b = record { subtype = s; address1 = a₁; address2 = a�
 module _ (a₁ a₂ a₃ c : ℕ) where
   -- What is heard of a frame written here is what it was written from.
   pub heard-back : {s : ℕ} {b : Body} {w : Heard} → Says c s b w → BodyFits b → heardOf (bytesOf (framed s a₁ a₂ a₃ b)) ≡ w
-  unfolding octets headOf bodyOf bytesOf heardOf responseOf authenticationOf walk
+  unfolding octets headOf bodyOf comebackElement bytesOf heardOf queryOf responseOf authenticationOf walk
   heard-back (authentication {a} {t} {s}) h = cc (le-octets 2 a (h .0), le-octets 2 t (h .1), le-octets 2 s (h .2))
   heard-back association-request h = refl
   heard-back (reassociation-request {a}) h = cc (le-octets 6 a (h .1))
   heard-back (association-response {s} {a}) h = cc (le-octets 2 s (h .1), aid-back a (h .2))
   heard-back (reassociation-response {s} {a}) h = cc (le-octets 2 s (h .1), aid-back a (h .2))
+  heard-back (association-later {s} {t}) h = cc (le-octets 2 s (h .1), le-octets 4 t (h .2))
+  heard-back (reassociation-later {s} {t}) h = cc (le-octets 2 s (h .1), le-octets 4 t (h .2))
   heard-back (deauthentication {r}) h = cc (le-octets 2 r h)
   heard-back (disassociation {r}) h = cc (le-octets 2 r h)
+  heard-back (query-request {i}) h = cc (le-octets 2 i h)
+  heard-back (query-response {i}) h = cc (le-octets 2 i h)
 
   -- A frame written here has a class, and the length and the addresses that it needs.
   pub shape-back : {s : ℕ} {b : Body} {w : Heard} → Says c s b w → shapeOf (bytesOf (framed s a₁ a₂ a₃ b)) ≡ Full
-  unfolding octets headOf bodyOf bytesOf shapeOf classOf isPublicAction leastOf leastManagement isBare
+  unfolding octets headOf bodyOf comebackElement bytesOf shapeOf classOf isPublicAction leastOf leastManagement isBare
   shape-back authentication = refl
   shape-back association-request = refl
   shape-back reassociation-request = refl
@@ -108,9 +114,13 @@ module _ (a₁ a₂ a₃ c : ℕ) where
   shape-back reassociation-response = refl
   shape-back deauthentication = refl
   shape-back disassociation = refl
+  shape-back association-later = refl
+  shape-back reassociation-later = refl
+  shape-back query-request = refl
+  shape-back query-response = refl
 
-  least-back : {s : ℕ} {b : Body} {w : Heard} → Says c s b w → length (bytesOf (framed s a₁ a₂ a₃ b)) ≡ leastOf (field 1 0 (bytesOf (framed s a₁ a₂ a₃ b)))
-  unfolding octets headOf bodyOf bytesOf leastOf leastManagement isBare
+  least-back : {s : ℕ} {b : Body} {w : Heard} → Says c s b w → length (bytesOf (framed s a₁ a₂ a₃ b)) ≡ leastOf (field 1 0 (bytesOf (framed s a₁ a₂ a₃ b))) + moreOf w
+  unfolding octets headOf bodyOf comebackElement bytesOf leastOf leastManagement isBare
   least-back authentication = refl
   least-back association-request = refl
   least-back reassociation-request = refl
@@ -118,9 +128,13 @@ module _ (a₁ a₂ a₃ c : ℕ) where
   least-back reassociation-response = refl
   least-back deauthentication = refl
   least-back disassociation = refl
+  least-back association-later = refl
+  least-back reassociation-later = refl
+  least-back query-request = refl
+  least-back query-response = refl
 
   unheard-back : {s : ℕ} {b : Body} {w : Heard} → Says c s b w → BodyFits b → Unheard w c (bytesOf (framed s a₁ a₂ a₃ b))
-  unfolding octets headOf bodyOf bytesOf
+  unfolding octets headOf bodyOf comebackElement bytesOf
   unheard-back authentication h = tt
   unheard-back association-request h = (le-octets 2 c h, refl)
   unheard-back reassociation-request h = (le-octets 2 c (h .0), refl)
@@ -128,6 +142,10 @@ module _ (a₁ a₂ a₃ c : ℕ) where
   unheard-back (reassociation-response {s} {a}) h = (le-octets 2 c (h .0), top-back a (h .2))
   unheard-back deauthentication h = tt
   unheard-back disassociation h = tt
+  unheard-back association-later h = (le-octets 2 c (h .0), refl)
+  unheard-back reassociation-later h = (le-octets 2 c (h .0), refl)
+  unheard-back query-request h = tt
+  unheard-back query-response h = tt
 
   -- Every field of a frame written here reads back.
   pub reads-back : {s : ℕ} {b : Body} {w : Heard} → Says c s b w → FrameFits (framed s a₁ a₂ a₃ b) → Reads a₁ a₂ a₃ c w (bytesOf (framed s a₁ a₂ a₃ b))

@@ -1,4 +1,4 @@
--- A row and its octets are one another's inverse: a row's octets give it back where its numbers fit (`row-back`), and the row of 16 octets
+-- A row and its octets are one another's inverse: a row's octets give it back where its numbers fit (`row-back`), and the row of 24 octets
 -- gives them back (`octets-back`).
 -- Assumes nothing.
 use mathlib.Core.Path.{_≡_, refl, ap, sym, _∙_}
@@ -11,7 +11,7 @@ use lib.Dec.{leb, eqb}
 use lib.ListN.{length, getD, take, drop, length-drop}
 use lib.Seq.{length-take-le, getD-drop, take-add, drop-drop, drop-cons}
 use Rattle.octets.specs.Field.{le, octets, field}
-use Rattle.octets.specs.Row.{blankAt, noRow, rowAt, rowOctets}
+use Rattle.octets.specs.Row.{blankAt, noRow, queryOctets, rowAt, rowOctets}
 use Rattle.octets.specs.declared.row.Row.{Row}
 use Rattle.octets.proofs.Le.{le-octets, le-one, le-split}
 use Rattle.octets.proofs.Branch.{and-left, and-right}
@@ -52,31 +52,48 @@ module _ (xs : List ℕ) (h : Octets xs) where
   split : (n m k j : ℕ) → k + n ≡ j → take (n + m) (drop k xs) ≡ take n (drop k xs) ++ take m (drop j xs)
   split n m k j e = rw (take-add n m (drop k xs), drop-drop n k xs, e)
 
-  pub octets-back : (k : ℕ) → k + 16 ≤ length xs → rowOctets (rowAt k xs) ≡ take 16 (drop k xs)
-  unfolding rowAt rowOctets
+  -- one field of n octets at k, and what stands from j on
+  then-field : (n m k j : ℕ) → k + n ≡ j → j + m ≤ length xs → {rest : List ℕ} → rest ≡ take m (drop j xs) → octets n (field n k xs) ++ rest ≡ take (n + m) (drop k xs)
+  then-field n m k j e r {rest} q = rw (q, field-octets n k (omega (arith, e, r))) (sym (split n m k j e))
+
+  then-octet : (m k j : ℕ) → k + 1 ≡ j → j + m ≤ length xs → {rest : List ℕ} → rest ≡ take m (drop j xs) → field 1 k xs ∷ rest ≡ take (1 + m) (drop k xs)
+  then-octet m k j e r {rest} q = ap (λ z. z ++ rest) (one-octet k (omega (arith, e, r))) ∙ rw q (sym (split 1 m k j e))
+
+  pub octets-back : (k : ℕ) → k + 24 ≤ length xs → rowOctets (rowAt k xs) ≡ take 24 (drop k xs)
+  unfolding rowAt rowOctets queryOctets octets
   octets-back k r =
-      rw (le-leb (k + 16) (length xs) r, field-octets 8 k (omega arith), field-octets 4 (k + 8) (omega arith), field-octets 2 (k + 12) (omega arith))
-      (sym (split 14 2 k (k + 14) refl ∙ λ i. (split 12 2 k (k + 12) refl ∙ ap (λ z. z ++ take 2 (drop (k + 12) xs)) (split 8 4 k (k + 8) refl)) i ++ two i))
-    where
-      two : take 2 (drop (k + 14) xs) ≡ field 1 (k + 14) xs ∷ field 1 (k + 15) xs ∷ []
-      two = split 1 1 (k + 14) (k + 15) (omega arith) ∙ sym (λ i. one-octet (k + 14) (omega arith) i ++ one-octet (k + 15) (omega arith) i)
+      rw (le-leb (k + 24) (length xs) r)
+      (then-field 8 16 k (k + 8) refl (omega (arith, r))
+      (then-field 4 12 (k + 8) (k + 12) (omega arith) (omega (arith, r))
+      (then-field 2 10 (k + 12) (k + 14) (omega arith) (omega (arith, r))
+      (then-octet 9 (k + 14) (k + 15) (omega arith) (omega (arith, r))
+      (then-octet 8 (k + 15) (k + 16) (omega arith) (omega (arith, r))
+      (then-field 2 6 (k + 16) (k + 18) (omega arith) (omega (arith, r))
+      (then-field 2 4 (k + 18) (k + 20) (omega arith) (omega (arith, r))
+      (field-octets 4 (k + 20) (omega (arith, r))))))))))
 
 -- A row's numbers fit their octets.
 pub record RowFits (r : Row) : Type 0 where
   pub address : r .address < 2 ^ 64
   pub hold : r .hold < 2 ^ 32
   pub left : r .left < 2 ^ 16
+  pub identifier : r .identifier < 2 ^ 16
+  pub remaining : r .remaining < 2 ^ 16
+  pub query : r .query < 2 ^ 32
 
 pub row-back : (r : Row) (ys : List ℕ) → RowFits r → rowAt 0 (rowOctets r ++ ys) ≡ r
-unfolding rowAt rowOctets octets
+unfolding rowAt rowOctets queryOctets octets
 row-back r ys h =
-    rw (le-leb 16 (length (rowOctets r ++ ys)) (omega arith))
+    rw (le-leb 24 (length (rowOctets r ++ ys)) (omega arith))
     (λ i. record {
       address = le-octets 8 (r .address) (h .address) i;
       hold = le-octets 4 (r .hold) (h .hold) i;
       left = le-octets 2 (r .left) (h .left) i;
       state = one (r .state) i;
       exchange = one (r .exchange) i;
+      identifier = le-octets 2 (r .identifier) (h .identifier) i;
+      remaining = le-octets 2 (r .remaining) (h .remaining) i;
+      query = le-octets 4 (r .query) (h .query) i;
     })
   where
     one : (x : ℕ) → le (x ∷ []) ≡ x
@@ -96,26 +113,37 @@ module _ (k : ℕ) (xs : List ℕ) where
   s1 : field 2 (k + 14) xs ≡ field 1 (k + 14) xs + 256 ^ 1 * field 1 (k + 15) xs
   s1 = at-place 1 1 (k + 14) (k + 15) (omega arith)
 
+  q4 : field 8 (k + 16) xs ≡ field 4 (k + 16) xs + 256 ^ 4 * field 4 (k + 20) xs
+  q4 = at-place 4 4 (k + 16) (k + 20) (omega arith)
+
+  q2 : field 4 (k + 16) xs ≡ field 2 (k + 16) xs + 256 ^ 2 * field 2 (k + 18) xs
+  q2 = at-place 2 2 (k + 16) (k + 18) (omega arith)
+
   zero-of : (x : ℕ) → x ≡ 0 → x ≡ 0
   zero-of x q = q
 
   pub blank-row : blankAt k xs ≡ true → rowAt k xs ≡ noRow
   unfolding blankAt rowAt
   blank-row e =
-      let r = and-left (leb (k + 16) (length xs)) _ e in
-      let z = and-right (leb (k + 16) (length xs)) _ e in
+      let r = and-left (leb (k + 24) (length xs)) _ e in
+      let z = and-right (leb (k + 24) (length xs)) _ e in
+      let y = and-right (eqb (field 8 k xs) 0) _ z in
       let a : field 8 k xs ≡ 0 = eqb-true (field 8 k xs) 0 (and-left (eqb (field 8 k xs) 0) _ z) in
-      let b : field 8 (k + 8) xs ≡ 0 = eqb-true (field 8 (k + 8) xs) 0 (and-right (eqb (field 8 k xs) 0) _ z) in
-      rw (r, a, zero-of (field 4 (k + 8) xs) (omega (arith, b, s4)), zero-of (field 2 (k + 12) xs) (omega (arith, b, s4, s2)), zero-of (field 1 (k + 14) xs) (omega (arith, b, s4, s2, s1)), zero-of (field 1 (k + 15) xs) (omega (arith, b, s4, s2, s1)))
+      let b : field 8 (k + 8) xs ≡ 0 = eqb-true (field 8 (k + 8) xs) 0 (and-left (eqb (field 8 (k + 8) xs) 0) _ y) in
+      let d : field 8 (k + 16) xs ≡ 0 = eqb-true (field 8 (k + 16) xs) 0 (and-right (eqb (field 8 (k + 8) xs) 0) _ y) in
+      rw (r, a, zero-of (field 4 (k + 8) xs) (omega (arith, b, s4)), zero-of (field 2 (k + 12) xs) (omega (arith, b, s4, s2)), zero-of (field 1 (k + 14) xs) (omega (arith, b, s4, s2, s1)), zero-of (field 1 (k + 15) xs) (omega (arith, b, s4, s2, s1)), zero-of (field 2 (k + 16) xs) (omega (arith, d, q4, q2)), zero-of (field 2 (k + 18) xs) (omega (arith, d, q4, q2)), zero-of (field 4 (k + 20) xs) (omega (arith, d, q4)))
 
-  pub row-blank : k + 16 ≤ length xs → rowAt k xs ≡ noRow → blankAt k xs ≡ true
+  pub row-blank : k + 24 ≤ length xs → rowAt k xs ≡ noRow → blankAt k xs ≡ true
   unfolding blankAt rowAt
   row-blank h e =
-      let r = le-leb (k + 16) (length xs) h in
+      let r = le-leb (k + 24) (length xs) h in
       let q = rw r at e in
       let a : field 8 k xs ≡ 0 = ap (λ w. w .address) q in
       let b4 : field 4 (k + 8) xs ≡ 0 = ap (λ w. w .hold) q in
       let b2 : field 2 (k + 12) xs ≡ 0 = ap (λ w. w .left) q in
       let b1 : field 1 (k + 14) xs ≡ 0 = ap (λ w. w .state) q in
       let b0 : field 1 (k + 15) xs ≡ 0 = ap (λ w. w .exchange) q in
-      rw (r, eq-eqb (field 8 k xs) 0 a, eq-eqb (field 8 (k + 8) xs) 0 (omega (arith, s4, s2, s1, b4, b2, b1, b0)))
+      let d2 : field 2 (k + 16) xs ≡ 0 = ap (λ w. w .identifier) q in
+      let d1 : field 2 (k + 18) xs ≡ 0 = ap (λ w. w .remaining) q in
+      let d0 : field 4 (k + 20) xs ≡ 0 = ap (λ w. w .query) q in
+      rw (r, eq-eqb (field 8 k xs) 0 a, eq-eqb (field 8 (k + 8) xs) 0 (omega (arith, s4, s2, s1, b4, b2, b1, b0)), eq-eqb (field 8 (k + 16) xs) 0 (omega (arith, q4, q2, d2, d1, d0)))

@@ -1,4 +1,5 @@
--- A record of a peer as it crosses to a host: 16 octets, little-endian: address 8, hold 4, left 2, state 1, exchange 1.
+-- A record of a peer as it crosses to a host: 24 octets, little-endian: address 8, hold 4, left 2, state 1, exchange 1; then of the
+-- query its identifier 2, what is left of it 2, and its number 4.
 -- Assumes nothing.
 use Prim.Native.Nat.{ℕ, _+_}
 use mathlib.Core.List.{List, [], _∷_, _++_}
@@ -11,23 +12,37 @@ use Rattle.octets.specs.Field.{field, octets}
 use Rattle.octets.specs.declared.row.Row.{Row}
 
 abbrev pub noRow : Row
-noRow = record { address = 0; hold = 0; left = 0; state = 0; exchange = 0 }
+noRow = record { address = 0; hold = 0; left = 0; state = 0; exchange = 0; identifier = 0; remaining = 0; query = 0 }
 
 -- The row at place k; all zero where the octets end before it does.
 unfoldable pub rowAt : ℕ → List ℕ → Row
 rowAt k xs =
-    pick (leb (k + 16) (length xs))
-    (record { address = field 8 k xs; hold = field 4 (k + 8) xs; left = field 2 (k + 12) xs; state = field 1 (k + 14) xs; exchange = field 1 (k + 15) xs })
+    pick (leb (k + 24) (length xs))
+    (record {
+      address = field 8 k xs;
+      hold = field 4 (k + 8) xs;
+      left = field 2 (k + 12) xs;
+      state = field 1 (k + 14) xs;
+      exchange = field 1 (k + 15) xs;
+      identifier = field 2 (k + 16) xs;
+      remaining = field 2 (k + 18) xs;
+      query = field 4 (k + 20) xs;
+    })
     noRow
 
--- Whether the 16 octets at place k are there and all zero.
+-- Whether the 24 octets at place k are there and all zero.
 unfoldable pub blankAt : ℕ → List ℕ → Bool
-blankAt k xs = leb (k + 16) (length xs) && (eqb (field 8 k xs) 0 && eqb (field 8 (k + 8) xs) 0)
+blankAt k xs =
+    leb (k + 24) (length xs) && (eqb (field 8 k xs) 0 && (eqb (field 8 (k + 8) xs) 0 && eqb (field 8 (k + 16) xs) 0))
 
--- The octets of a row.
+-- The octets of a row: those of its query last.
+unfoldable pub queryOctets : Row → List ℕ
+queryOctets r = octets 2 (r .identifier) ++ octets 2 (r .remaining) ++ octets 4 (r .query)
+
 unfoldable pub rowOctets : Row → List ℕ
-rowOctets r = octets 8 (r .address) ++ octets 4 (r .hold) ++ octets 2 (r .left) ++ r .state ∷ r .exchange ∷ []
+rowOctets r =
+    octets 8 (r .address) ++ octets 4 (r .hold) ++ octets 2 (r .left) ++ r .state ∷ r .exchange ∷ queryOctets r
 
 -- The octets xs with a row stored at place k, where there is room for it.
 unfoldable pub rowIn : ℕ → Row → List ℕ → List ℕ
-rowIn k r xs = pick (leb (k + 16) (length xs)) (sets xs k (rowOctets r)) xs
+rowIn k r xs = pick (leb (k + 24) (length xs)) (sets xs k (rowOctets r)) xs

@@ -1,11 +1,13 @@
 // The frames that are written, and how: 24 octets of header, then the body.
 use crate::put::put_address;
+use crate::put::put_octet;
 use crate::put::put_u16;
+use crate::put::put_u32;
 ghost use mathlib.Core.Path.{_≡_};
 ghost use Prim.Native.Nat.{_+_, _≤_};
 ghost use lib.ListN.{length};
 ghost use Rattle.octets.specs.Stored.{Stored};
-ghost use Rattle.octets.specs.Frame.{aidField, capabilityOf, headOf, bodyOf, writtenOf, lengthOf};
+ghost use Rattle.octets.specs.Frame.{aidField, capabilityOf, comebackElement, headOf, bodyOf, writtenOf, lengthOf};
 
 pub enum Body {
     Authentication {
@@ -26,8 +28,19 @@ pub enum Body {
         status: u16,
         aid: u16,
     },
+    // A (re)association response with AID 0 and the time after which the station may come back, in a Timeout Interval element.
+    Later {
+        capability: u16,
+        status: u16,
+        time: u32,
+    },
     // Deauthentication or disassociation.
     Reason(u16),
+    // An SA Query: request 0, response 1.
+    Query {
+        action: u8,
+        identifier: u16,
+    },
 }
 
 pub struct Frame {
@@ -54,10 +67,19 @@ impl Frame {
 
     pub const DEAUTHENTICATION: u8 = 12;
 
+    pub const ACTION: u8 = 13;
+
+    // The category of an SA Query, and its actions.
+    pub const SA_QUERY: u8 = 8;
+
+    pub const QUERY_REQUEST: u8 = 0;
+
+    pub const QUERY_RESPONSE: u8 = 1;
+
     pub const LISTEN_INTERVAL: u16 = 10;
 
     // The octets of the longest frame written: the room that every event but a clock step is lent.
-    pub const LONGEST: usize = 34;
+    pub const LONGEST: usize = 37;
 }
 
 // The capability field: ESS, and privacy where RSNA is required.
@@ -86,8 +108,19 @@ fn put_head(out: &mut [u8], f: Frame)
     put_u16(out, 22, 0);
 }
 
+// The Timeout Interval element of a rejection: id 56, length 5, type 3, the time.
+fn put_comeback(out: &mut [u8], time: u32)
+    requires { ⌜ 37 ≤ length (now out) ⌝ }
+    ensures { λ _. ⌜ Stored (now (out .entry)) 30 (comebackElement time) (now (out .exit)) ⌝ }
+{
+    put_octet(out, 30, 56);
+    put_octet(out, 31, 5);
+    put_octet(out, 32, 3);
+    put_u32(out, 33, time);
+}
+
 fn put_body(out: &mut [u8], b: Body) -> u16
-    requires { ⌜ 34 ≤ length (now out) ⌝ }
+    requires { ⌜ 37 ≤ length (now out) ⌝ }
     ensures { λ r. ⌜ (r ≡ 24 + length (bodyOf b)) × (Stored (now (out .entry)) 24 (bodyOf b) (now (out .exit))) ⌝ }
 {
     match b {
@@ -125,9 +158,26 @@ fn put_body(out: &mut [u8], b: Body) -> u16
             put_u16(out, 28, aid_field(aid));
             30
         }
+        Body::Later {
+            capability,
+            status,
+            time,
+        } => {
+            put_u16(out, 24, capability);
+            put_u16(out, 26, status);
+            put_u16(out, 28, 0);
+            put_comeback(out, time);
+            37
+        }
         Body::Reason(reason) => {
             put_u16(out, 24, reason);
             26
+        }
+        Body::Query { action, identifier } => {
+            put_octet(out, 24, Frame::SA_QUERY);
+            put_octet(out, 25, action);
+            put_u16(out, 26, identifier);
+            28
         }
     }
 }

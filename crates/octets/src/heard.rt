@@ -4,8 +4,9 @@ use crate::element::first_comeback;
 use crate::field::address_at;
 use crate::field::octet_at;
 use crate::field::u16_at;
+use crate::frame::Frame;
 ghost use mathlib.Core.Path.{_≡_};
-ghost use Rattle.octets.specs.Heard.{authenticationOf, responseOf, heardOf};
+ghost use Rattle.octets.specs.Heard.{authenticationOf, queryOf, responseOf, heardOf};
 
 // The three exchanges, each a request and a response.
 pub enum Kind {
@@ -35,6 +36,9 @@ pub enum Heard {
         aid: u16,
         comeback: Comeback,
     },
+    // An SA Query, with its identifier.
+    QueryRequest(u16),
+    QueryResponse(u16),
 }
 
 // The fields of an authentication frame.
@@ -57,6 +61,24 @@ fn response(frame: &[u8], kind: Kind) -> Heard
         status: u16_at(frame, 26),
         aid: u16_at(frame, 28) % 16384,
         comeback: first_comeback(frame),
+    }
+}
+
+// An SA Query, or an Action frame of another kind.
+fn query(frame: &[u8]) -> Heard
+    ensures { λ r. ⌜ r ≡ queryOf (now (frame .entry)) ⌝ }
+{
+    if frame.len() < 28 {
+        return Heard::Other; // no identifier
+    }
+    if octet_at(frame, 24) != Frame::SA_QUERY {
+        return Heard::Other; // another category
+    }
+    let identifier = u16_at(frame, 26);
+    match octet_at(frame, 25) {
+        0 => Heard::QueryRequest(identifier),
+        1 => Heard::QueryResponse(identifier),
+        _ => Heard::Other,
     }
 }
 
@@ -83,6 +105,7 @@ pub fn read(frame: &[u8]) -> Heard
         10 => Heard::Disassociation(u16_at(frame, 24)),
         11 => authentication(frame),
         12 => Heard::Deauthentication(u16_at(frame, 24)),
+        13 => query(frame),
         _ => Heard::Other,
     }
 }

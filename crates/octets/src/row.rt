@@ -1,4 +1,4 @@
-// A record of a peer as it crosses to a host: numbers only, in 16 octets.
+// A record of a peer as it crosses to a host: numbers only, in 24 octets.
 use crate::put::put_octet;
 use crate::put::put_u16;
 use crate::put::put_u32;
@@ -8,7 +8,8 @@ ghost use Prim.Native.Nat.{_+_, _≤_};
 ghost use lib.Dec.{leb};
 ghost use lib.ListN.{length};
 ghost use Rattle.octets.specs.Field.{field};
-ghost use Rattle.octets.specs.Row.{blankAt, rowAt, rowIn};
+ghost use Rattle.octets.specs.Stored.{Stored};
+ghost use Rattle.octets.specs.Row.{blankAt, queryOctets, rowAt, rowIn};
 
 pub struct Row {
     pub address: u64,
@@ -16,11 +17,14 @@ pub struct Row {
     pub left: u16,
     pub state: u8,
     pub exchange: u8,
+    pub identifier: u16,
+    pub remaining: u16,
+    pub query: u32,
 }
 
 impl Row {
     // How many octets a row has.
-    pub const OCTETS: usize = 16;
+    pub const OCTETS: usize = 24;
 }
 
 fn half(s: &[u8], at: usize) -> u16
@@ -46,7 +50,7 @@ fn long(s: &[u8], at: usize) -> u64
 
 // Whether there is room for a row at a place.
 fn has_row(lent: usize, at: usize) -> bool
-    ensures { λ r. ⌜ r ≡ leb (at + 16) lent ⌝ }
+    ensures { λ r. ⌜ r ≡ leb (at + 24) lent ⌝ }
 {
     if lent < Row::OCTETS {
         return false;
@@ -65,6 +69,9 @@ pub fn row_at(s: &[u8], at: usize) -> Row
             left: 0,
             state: 0,
             exchange: 0,
+            identifier: 0,
+            remaining: 0,
+            query: 0,
         };
     }
     Row {
@@ -73,6 +80,9 @@ pub fn row_at(s: &[u8], at: usize) -> Row
         left: half(s, at + 12),
         state: s[at + 14],
         exchange: s[at + 15],
+        identifier: half(s, at + 16),
+        remaining: half(s, at + 18),
+        query: word(s, at + 20),
     }
 }
 
@@ -83,7 +93,7 @@ pub fn address_in(s: &[u8], at: usize) -> u64
     if has_row(s.len(), at) { long(s, at) } else { 0 }
 }
 
-// Whether the 16 octets at a place are there and all zero: two numbers to look at, where a row has five.
+// Whether the 24 octets at a place are there and all zero: three numbers to look at, where a row has eight.
 pub fn blank_at(s: &[u8], at: usize) -> bool
     ensures { λ r. ⌜ r ≡ blankAt at (now (s .entry)) ⌝ }
 {
@@ -93,7 +103,20 @@ pub fn blank_at(s: &[u8], at: usize) -> bool
     if long(s, at) != 0 {
         return false;
     }
-    long(s, at + 8) == 0
+    if long(s, at + 8) != 0 {
+        return false;
+    }
+    long(s, at + 16) == 0
+}
+
+// Stores what a row has of a query.
+fn put_query(out: &mut [u8], at: usize, row: Row)
+    requires { ⌜ at + 8 ≤ length (now out) ⌝ }
+    ensures { λ _. ⌜ Stored (now (out .entry)) at (queryOctets row) (now (out .exit)) ⌝ }
+{
+    put_u16(&mut *out, at, row.identifier);
+    put_u16(&mut *out, at + 2, row.remaining);
+    put_u32(out, at + 4, row.query);
 }
 
 // Stores a row at a place, where there is room for it.
@@ -107,5 +130,6 @@ pub fn put_row(out: &mut [u8], at: usize, row: Row)
     put_u32(&mut *out, at + 8, row.hold);
     put_u16(&mut *out, at + 12, row.left);
     put_octet(&mut *out, at + 14, row.state);
-    put_octet(out, at + 15, row.exchange);
+    put_octet(&mut *out, at + 15, row.exchange);
+    put_query(out, at + 16, row);
 }

@@ -11,8 +11,10 @@ use Rattle.octets.specs.declared.heard.Kind.the-variants.{Association, Authenti
 use Rattle.octets.specs.declared.heard.Kind.{Kind}
 use Rattle.peer.specs.Authentication.{answeredMove}
 use Rattle.peer.specs.Ask.{answerOf, askOf, associateOf, awaitedOf, deauthenticateOf, declinedMove, declinedOf, disassociateOf, failedOf, reassociateOf, reportOf, reportedMove, respondOf, secureOf, startedOf, timeoutOf}
+use Rattle.peer.specs.Challenge.{inquiredOf}
 use Rattle.peer.specs.Fit.{askedFits, awaitingFits, sentFits, stands}
 use Rattle.peer.specs.Moves.{movedOf}
+use Rattle.peer.specs.Query.{sentQuery}
 use Rattle.peer.specs.Record.{askedOf, isAssociating, kindOf, underWay}
 use Rattle.peer.specs.Refuse.{codeAllowed, conflictOf, joinConflict, mismatchOf, roleAllowed}
 use Rattle.peer.specs.Settings.{ap, settingsFit, station, timeFits}
@@ -22,8 +24,10 @@ use Rattle.peer.specs.declared.record.Exchange.the-variants.{Awaiting, S
 use Rattle.peer.specs.declared.record.Record.{Record}
 use Rattle.peer.specs.declared.refuse.Others.{Others}
 use Rattle.peer.specs.declared.settings.Settings.{Settings}
-use Rattle.peer.proofs.Fits.{Fits, asked-stands, both, clash, keeps-changed, moved-high, moved-low, or-left, suits-still, wrong}
-use Rattle.peer.proofs.Keeps.{Turns, answered-calm, begun, ended, stood, stood-any, turned}
+use Rattle.peer.proofs.Fits.{Fits, asked-stands, both, clash, keeps-changed, or-left, suits-still, wrong}
+use Rattle.peer.proofs.Moved.{moved-high, moved-low}
+use Rattle.peer.proofs.Keeps.{Turns, answered-calm, begun, ended, queried, stood, stood-any, turned}
+use Rattle.peer.proofs.QueryFits.{sent-fits}
 
 -- the statement
 abbrev pub PrimitiveKeeps : Type 0
@@ -124,6 +128,10 @@ module _ (s : Settings) (p : Record) (f : Fits s p) (o : Others) (fit : settings
   unfolding reportOf
   reported code r = ended f (reportedMove code) (p .hold) _ _ _ (f .held) (λ a. clash r a)
 
+  inquired : Turns s (o .busy) p (inquiredOf s p)
+  unfolding inquiredOf
+  inquired = queried f (sentQuery (p .query)) (p .identifier) _ _ _ (f .numbered) (sent-fits s (p .state) (p .query) (f .queries))
+
   asked-keeps :
       (aid q code : ℕ) → codeAllowed q code ≡ true → roleAllowed q (s .role) ≡ true → conflictOf p o q ≡ false → mismatchOf p o q ≡ false
       → Turns s (o .busy) p (askOf s aid p o q code)
@@ -141,8 +149,9 @@ module _ (s : Settings) (p : Record) (f : Fits s p) (o : Others) (fit : settings
       (let z = eqb-true q 8 e in respond aid Reassociation code (rw z at role) (awaits Reassociation 3 (rw z at role) refl refl (not-false _ (rw z at mismatch))))) (λ e8.
       by-bool (eqb q 9) (λ e. rw (e1, e2, e3, e4, e5, e6, e7, e8, e)
       (let z = eqb-true q 9 e in secured (le-leb 3 (p .state) (ltb-false (p .state) 3 (rw z at mismatch))))) (λ e9.
-      by-bool (eqb q 10) (λ e. rw (e1, e2, e3, e4, e5, e6, e7, e8, e9) (let z = eqb-true q 10 e in reported code (rw z at role)))
-      (λ e. wrong (simp (e1, e2, e3, e4, e5, e6, e7, e8, e9, e) at allowed)))))))))))
+      by-bool (eqb q 10) (λ e. rw (e1, e2, e3, e4, e5, e6, e7, e8, e9, e) (let z = eqb-true q 10 e in reported code (rw z at role))) (λ e10.
+      by-bool (eqb q 11) (λ e. rw (e1, e2, e3, e4, e5, e6, e7, e8, e9, e10) inquired)
+      (λ e. wrong (simp (e1, e2, e3, e4, e5, e6, e7, e8, e9, e10, e) at allowed))))))))))))
 
 pub ask-keeps : PrimitiveKeeps
 ask-keeps = asked-keeps

@@ -1,7 +1,7 @@
--- Demand 2's round trip, of the frames that primitives send: what the other end hears of one is what document 01 says of its number, code, AID
--- and associated AP (`askedSays`), with its addresses and every other octet (`ask-said`).
+-- Demand 2's round trip, of the frames that primitives send: what the other end hears of one is what document 01 says of its number, code, AID,
+-- associated AP and identifier (`askedSays`), with its addresses and every other octet (`ask-said`).
 -- Assumes nothing.
-use Prim.Native.Nat.{ℕ, _<_, _^_}
+use Prim.Native.Nat.{ℕ, _≤_, _<_, _^_}
 use mathlib.Core.Path.{_≡_, refl}
 use mathlib.Core.Bool.{Bool, true, false, _||_}
 use mathlib.Core.List.{[], _∷_}
@@ -13,7 +13,7 @@ use Rattle.octets.specs.Address.{validOf}
 use Rattle.octets.specs.Field.{octets}
 use Rattle.octets.specs.Frame.{bodyOf, bytesOf, capabilityOf, headOf}
 use Rattle.octets.specs.Pick.{pick}
-use Rattle.octets.specs.Read.{BodyFits, Says, association-request, association-response, authentication, deauthentication, disassociation, reassociation-request, reassociation-response}
+use Rattle.octets.specs.Read.{BodyFits, Says, association-request, association-response, authentication, deauthentication, disassociation, query-request, reassociation-request, reassociation-response}
 use Rattle.octets.specs.declared.element.Comeback.the-variants.{Absent}
 use Rattle.octets.specs.declared.frame.Body.the-variants as body
 use Rattle.octets.specs.declared.frame.Body.{Body}
@@ -22,10 +22,12 @@ use Rattle.octets.specs.declared.heard.Heard.{Heard}
 use Rattle.octets.specs.declared.heard.Kind.the-variants.{Association, Reassociation}
 use Rattle.octets.specs.declared.heard.Kind.{Kind}
 use Rattle.peer.specs.Ask.{answerOf, askOf, associateOf, awaitedOf, deauthenticateOf, declinedOf, disassociateOf, failedOf, reassociateOf, reportOf, respondOf, secureOf, startedOf}
-use Rattle.peer.specs.Reply.{apAddress, authenticationTo, deauthenticationTo, disassociationTo, requestTo, responseSubtype, responseTo, sendOf}
+use Rattle.peer.specs.Challenge.{inquiredOf}
+use Rattle.peer.specs.Reply.{apAddress, authenticationTo, deauthenticationTo, disassociationTo, queryTo, requestTo, responseSubtype, responseTo, sendOf}
 use Rattle.peer.specs.Said.{ReadsTo, Speaks, askedSays}
-use Rattle.peer.specs.Settings.{settingsFit, timeFits}
+use Rattle.peer.specs.Settings.{queryTimesFit, settingsFit, timeFits}
 use Rattle.peer.specs.Turn.{turnOf}
+use Rattle.peer.specs.declared.query.Query.the-variants as query
 use Rattle.peer.specs.declared.record.Exchange.the-variants.{None}
 use Rattle.peer.specs.declared.record.Record.{Record}
 use Rattle.peer.specs.declared.refuse.Others.{Others}
@@ -38,7 +40,7 @@ pick-two : {A B : Type 0} (P : A → B → Type 0) (b : Bool) {x y : A} {u v : B
 pick-two P true h k = h
 pick-two P false h k = k
 
-module _ (s : Settings) (fit : settingsFit s ≡ true) (p : Record) (valid : validOf (p .address) ≡ true) where
+module _ (s : Settings) (fit : settingsFit s ≡ true) (p : Record) (valid : validOf (p .address) ≡ true) (numbered : p .identifier ≤ 65535) where
   -- what a turn says
   abbrev Turned : Turn → Heard → Type 0
   Turned t w = Speaks s (p .address) w (t .reply)
@@ -57,8 +59,8 @@ module _ (s : Settings) (fit : settingsFit s ≡ true) (p : Record) (valid : val
 
   pub ask-said :
       (aid : ℕ) → aid < 2 ^ 14 → (o : Others) → o .associated < 2 ^ 48 → (q code : ℕ) → code < 2 ^ 16
-      → Speaks s (p .address) (askedSays q code aid (o .associated)) (askOf s aid p o q code .reply)
-  unfolding askOf startedOf answerOf deauthenticateOf associateOf reassociateOf failedOf disassociateOf secureOf reportOf turnOf requestTo authenticationTo deauthenticationTo disassociationTo
+      → Speaks s (p .address) (askedSays q code aid (o .associated) (p .identifier)) (askOf s aid p o q code .reply)
+  unfolding askOf startedOf answerOf deauthenticateOf associateOf reassociateOf failedOf disassociateOf secureOf reportOf inquiredOf turnOf requestTo authenticationTo deauthenticationTo disassociationTo queryTo
   ask-said aid small o near q code short =
       pick-two Turned (eqb q 1) (to authentication (omega arith) (omega arith, omega arith, omega arith))
       (pick-two Turned (eqb q 2) (to authentication (omega arith) (omega arith, omega arith, short))
@@ -69,18 +71,19 @@ module _ (s : Settings) (fit : settingsFit s ≡ true) (p : Record) (valid : val
       (pick-two Turned (eqb q 6) (pick-both (λ t. Turned t (heard.Disassociation code)) (ltb (p .state) 3) tt (to disassociation (omega arith) short))
       (pick-two Turned (eqb q 7) (responded Association (λ status aid. association-response) (omega arith) aid code small short)
       (pick-two Turned (eqb q 8) (responded Reassociation (λ status aid. reassociation-response) (omega arith) aid code small short)
-      (pick-both (λ t. Turned t heard.Other) (eqb q 9) tt tt))))))))
+      (pick-two Turned (eqb q 9) tt
+      (pick-two Turned (eqb q 10) tt (to query-request (omega arith) (omega arith)))))))))))
 
 -- An example: a station, own address 0a, RSNA required, is associated with the AP 0c and asks 0e, where it is authenticated: primitive 5.
 abbrev roaming : Settings
-roaming = record { role = 2; own = 0x0a; rsna = 1; authentication = 10; association = 10; edition = 1; protection = 0 }
+roaming = record { role = 2; own = 0x0a; rsna = 1; authentication = 10; association = 10; edition = 1; protection = 0; retry = 201; maximum = 1000 }
 
 abbrev nearer : Record
-nearer = record { address = 0x0e; state = 2; exchange = None; left = 0; hold = 0 }
+nearer = record { address = 0x0e; state = 2; exchange = None; left = 0; hold = 0; query = query.None; identifier = 0 }
 
 roamed :
     ReadsTo roaming 0x0e (heard.Request Reassociation 0x0c)
     (0x20 ∷ 0 ∷ 0 ∷ 0 ∷ 0x0e ∷ 0 ∷ 0 ∷ 0 ∷ 0 ∷ 0 ∷ 0x0a ∷ 0 ∷ 0 ∷ 0 ∷ 0 ∷ 0 ∷ 0x0e ∷ 0 ∷ 0 ∷ 0 ∷ 0 ∷ 0 ∷ 0 ∷ 0 ∷
     0x11 ∷ 0 ∷ 10 ∷ 0 ∷ 0x0c ∷ 0 ∷ 0 ∷ 0 ∷ 0 ∷ 0 ∷ [])
-unfolding askOf reassociateOf startedOf turnOf requestTo sendOf apAddress capabilityOf bytesOf headOf bodyOf octets settingsFit timeFits validOf
-roamed = ask-said roaming refl nearer refl 0 (omega arith) (record { associated = 0x0c; busy = false }) (omega arith) 5 0 (omega arith) .1
+unfolding askOf reassociateOf startedOf turnOf requestTo sendOf apAddress capabilityOf bytesOf headOf bodyOf octets settingsFit queryTimesFit timeFits validOf
+roamed = ask-said roaming refl nearer refl (omega arith) 0 (omega arith) (record { associated = 0x0c; busy = false }) (omega arith) 5 0 (omega arith) .1

@@ -1,44 +1,34 @@
--- 02, K2, "Two rules for a rejected association", at one peer: where a rejection of ours leads in each edition, and that the edition is asked
--- for nothing else.
+-- 02, K2, "Two rules for a rejected association", at one peer: where a rejection of ours leads in each edition. That the edition is asked for
+-- nothing else is in EditionsAlike.
 --     first-edition, second-edition, second-protected  the state after a rejection (primitives 7 and 8 with a status other than success)
 --     one-of-three                                     settings that fit follow one of these
 --     second-joined, second-silent, first-left         who is associated stays so in edition 2, and no word is sent; edition 1 tells "left"
---     rejects-alike, heard-rejection                   the exchange ends, the frame and all else are the same; a station goes to State 2
---     hears-alike, ticks-alike, asks-alike             no frame, no clock step and no other primitive looks at the edition or the flag
+--     heard-rejection                                  a station that hears a rejection goes to State 2
 -- Assumes nothing.
 use Prim.Native.Nat.{ℕ, _≤_}
 use mathlib.Core.Path.{_≡_, refl}
 use mathlib.Core.Bool.{Bool, true, false, not, _&&_}
 use native.Mathlib.Omega.{arith}
 use lib.Dec.{eqb, leb, ltb}
-use borrow.Author.Tests.{eqb-false, eqb-true, le-ltb, leb-true, ne-eqb, not-false, not-true}
+use borrow.Author.Tests.{eqb-false, eqb-true, le-ltb, leb-true, ne-eqb, not-true}
 use Rattle.octets.proofs.Branch.{by-bool, pick-both, pick-by}
 use Rattle.octets.specs.Address.{validOf}
 use Rattle.octets.specs.Pick.{pick}
-use Rattle.octets.specs.declared.class.FrameClass.the-variants as class
-use Rattle.octets.specs.declared.class.FrameClass.{FrameClass}
 use Rattle.octets.specs.declared.element.Comeback.the-variants.{Absent}
 use Rattle.octets.specs.declared.element.Comeback.{Comeback}
-use Rattle.octets.specs.declared.heard.Heard.the-variants as heard
-use Rattle.octets.specs.declared.heard.Heard.{Heard}
-use Rattle.octets.specs.declared.heard.Kind.the-variants.{Association, Authentication, Reassociation}
+use Rattle.octets.specs.declared.heard.Kind.the-variants.{Association, Reassociation}
 use Rattle.octets.specs.declared.heard.Kind.{Kind}
-use Rattle.peer.specs.Ask.{answerOf, askOf, associateOf, awaitedOf, deauthenticateOf, declinedMove, declinedOf, disassociateOf, failedOf, reassociateOf, reportOf, respondOf, secureOf, startedOf}
-use Rattle.peer.specs.Association.{acceptedOf, rejectedOf, requestHeard, responseHeard}
-use Rattle.peer.specs.Authentication.{authenticationAtAp, authenticationAtStation, authenticationHeard, fullOf, requestedOf}
-use Rattle.peer.specs.Farewell.{deauthenticationHeard, disassociationHeard}
-use Rattle.peer.specs.Filter.{barredBy, barredOf, filteredOf, requestBarred}
-use Rattle.peer.specs.Fit.{askedFits, holdFits, recordFits, stands}
-use Rattle.peer.specs.Hear.{actOf, groupHeard, hearOf}
+use Rattle.peer.specs.Ask.{askOf, declinedMove, declinedOf, respondOf}
+use Rattle.peer.specs.Association.{rejectedOf, responseHeard}
+use Rattle.peer.specs.Fit.{askedFits, holdFits, queryAllowed, recordFits, stands}
 use Rattle.peer.specs.Moves.{dsLeft, dsNone, dsOf, movedOf}
 use Rattle.peer.specs.Record.{changedOf, isJoined, isSent}
 use Rattle.peer.specs.Refuse.{codeAllowed, mismatchOf, one, roleAllowed}
-use Rattle.peer.specs.Reply.{apAddress, authenticationTo, deauthenticationTo, disassociationTo, requestTo, responseTo, sendOf}
-use Rattle.peer.specs.Settings.{ap, settingsFit, timeFits}
-use Rattle.peer.specs.Tick.{tickOf, timedOf}
-use Rattle.peer.specs.Turn.{begunOf, endedOf, none, nothingTold, repliedOf, soleOf, stillOf, turnOf}
+use Rattle.peer.specs.Settings.{ap, queryTimesFit, settingsFit, timeFits}
+use Rattle.peer.specs.Turn.{endedOf, none, turnOf}
 use Rattle.peer.specs.declared.moves.Move.the-variants as move
 use Rattle.peer.specs.declared.moves.Move.{Move}
+use Rattle.peer.specs.declared.query.Query.the-variants as query
 use Rattle.peer.specs.declared.record.Exchange.the-variants.{Asked, None, Sent}
 use Rattle.peer.specs.declared.record.Record.{Record}
 use Rattle.peer.specs.declared.refuse.Others.{Others}
@@ -60,7 +50,7 @@ one-of-three s h =
     let ne = eqb-false (s .edition) 0 (not-true (eqb (s .edition) 0) (d .0)) in
     (omega arith, leb-true (s .edition) 2 (both (leb (s .edition) 2) _ (d .1) .0), leb-true (s .protection) 1 (c .0))
 
-abbrev kindAsked : ℕ → Kind
+abbrev pub kindAsked : ℕ → Kind
 kindAsked q = pick (eqb q 7) Association Reassociation
 
 -- either primitive, with such a status, does what `declinedOf` says
@@ -131,86 +121,14 @@ pub heard-rejection :
 unfolding responseHeard rejectedOf turnOf endedOf changedOf
 heard-rejection s p k status aid c sent other = rw (sent, ne-eqb status 0 other)
 
--- The same settings in another edition, with another flag.
-unfoldable pub inEdition : Settings → ℕ → ℕ → Settings
-inEdition s edition protection =
-    record {
-      own = s .own;
-      authentication = s .authentication;
-      association = s .association;
-      role = s .role;
-      rsna = s .rsna;
-      edition = edition;
-      protection = protection;
-    }
-
-module _ (s : Settings) (edition protection : ℕ) (p : Record) where
-  abbrev other : Settings
-  other = inEdition s edition protection
-
-  filtered-alike : (k : FrameClass) → filteredOf other p k ≡ filteredOf s p k
-  unfolding inEdition deauthenticationTo disassociationTo sendOf apAddress
-  filtered-alike class.None = refl
-  filtered-alike class.One = refl
-  filtered-alike class.Two = refl
-  filtered-alike class.Three = refl
-
-  barred-alike : (k : FrameClass) (h : Heard) → barredBy other p k h ≡ barredBy s p k h
-  unfolding inEdition requestBarred responseTo sendOf apAddress
-  barred-alike k heard.Other = filtered-alike k
-  barred-alike k (heard.Authentication algorithm transaction status) = filtered-alike k
-  barred-alike k (heard.Deauthentication reason) = filtered-alike k
-  barred-alike k (heard.Disassociation reason) = filtered-alike k
-  barred-alike k (heard.Request kind current) = rw (filtered-alike k)
-  barred-alike k (heard.Response kind status aid c) = filtered-alike k
-
-  act-alike : (h : Heard) → actOf other p h ≡ actOf s p h
-  unfolding inEdition stillOf repliedOf turnOf soleOf begunOf endedOf authenticationHeard authenticationAtAp authenticationAtStation requestedOf deauthenticationHeard disassociationHeard requestHeard responseHeard acceptedOf rejectedOf authenticationTo sendOf apAddress
-  act-alike heard.Other = refl
-  act-alike (heard.Authentication algorithm transaction status) = refl
-  act-alike (heard.Deauthentication reason) = refl
-  act-alike (heard.Disassociation reason) = refl
-  act-alike (heard.Request k current) = refl
-  act-alike (heard.Response k status aid c) = refl
-
-  -- No frame, a rejection that a station hears among them.
-  pub hears-alike : (k : FrameClass) (group : Bool) (h : Heard) → hearOf other p k group h ≡ hearOf s p k group h
-  unfolding inEdition hearOf groupHeard barredOf repliedOf stillOf turnOf
-  hears-alike k group h = rw (barred-alike k h, act-alike h)
-
-  pub full-alike : fullOf other p ≡ fullOf s p
-  unfolding inEdition fullOf repliedOf turnOf authenticationTo sendOf apAddress
-  full-alike = refl
-
-  -- No clock step.
-  pub ticks-alike : (d : ℕ) → tickOf other p d ≡ tickOf s p d
-  unfolding inEdition tickOf timedOf endedOf
-  ticks-alike d = refl
-
-  -- No primitive but a rejection.
-  pub asks-alike : (aid : ℕ) (o : Others) (q code : ℕ) → rejects q code ≡ false → askOf other aid p o q code ≡ askOf s aid p o q code
-  unfolding inEdition askOf startedOf answerOf deauthenticateOf associateOf reassociateOf failedOf disassociateOf respondOf awaitedOf secureOf reportOf turnOf endedOf requestTo authenticationTo deauthenticationTo disassociationTo responseTo sendOf apAddress
-  asks-alike aid o q code n =
-      by-bool (eqb q 7)
-      (λ e. let z = eqb-true q 7 e in rw (z, not-false (eqb code 0) (rw z at n)))
-      (λ e. by-bool (eqb q 8) (λ f. let z = eqb-true q 8 f in rw (z, not-false (eqb code 0) (rw z at n))) (λ f. rw (e, f)))
-
-  -- And a rejection is one turn in every edition, but for the state that it ends in: the exchange ends, the hold stays, the frame is the same.
-  pub rejects-alike :
-      (aid : ℕ) (o : Others) (q code : ℕ) → rejects q code ≡ true
-      → askOf other aid p o q code
-      ≡ turnOf s p (changedOf p (askOf other aid p o q code .peer .state) None 0 (p .hold)) none nothingTold (responseTo s (p .address) (kindAsked q) code 0)
-  unfolding inEdition declinedOf turnOf endedOf changedOf responseTo sendOf apAddress
-  rejects-alike aid o q code r = rw (declines other aid p o q code r)
-
 -- ---- The hypotheses are met: at an access point a peer in State 4, or 3, has asked for reassociation, and primitive 8 rejects it with status 1.
 
 abbrev site : ℕ → ℕ → Settings
 site edition protection =
-    record { own = 2; authentication = 100; association = 100; role = 1; rsna = 0; edition = edition; protection = protection }
+    record { own = 2; authentication = 100; association = 100; role = 1; rsna = 0; edition = edition; protection = protection; retry = 201; maximum = 1000 }
 
 abbrev asking : ℕ → Record
-asking state = record { address = 4; state = state; exchange = Asked Reassociation; left = 0; hold = 0 }
+asking state = record { address = 4; state = state; exchange = Asked Reassociation; left = 0; hold = 0; query = query.None; identifier = 0 }
 
 abbrev nobody : Others
 nobody = record { associated = 0; busy = false }
@@ -221,7 +139,7 @@ taken s p = settingsFit s && (recordFits s p && (codeAllowed 8 1 && (roleAllowed
 
 all-taken :
     (taken (site 1 1) (asking 4) && (taken (site 2 0) (asking 4) && (taken (site 2 0) (asking 3) && taken (site 2 1) (asking 4)))) ≡ true
-unfolding taken settingsFit timeFits validOf recordFits holdFits askedFits stands codeAllowed roleAllowed mismatchOf
+unfolding taken settingsFit queryTimesFit timeFits validOf recordFits queryAllowed holdFits askedFits stands codeAllowed roleAllowed mismatchOf
 all-taken = refl
 
 four-to-two : askOf (site 1 1) 1 (asking 4) nobody 8 1 .peer .state ≡ 2
@@ -244,7 +162,7 @@ four-silent = second-silent (site 2 0) 1 (asking 4) nobody 8 1 refl refl
 
 -- .. and a station in State 4 that has asked for association again hears status 1.
 heard-two :
-    responseHeard (record { own = 2; authentication = 100; association = 100; role = 2; rsna = 0; edition = 2; protection = 1 })
-    (record { address = 4; state = 4; exchange = Sent Association; left = 9; hold = 0 }) Association 1 0 Absent .peer .state
+    responseHeard (record { own = 2; authentication = 100; association = 100; role = 2; rsna = 0; edition = 2; protection = 1; retry = 201; maximum = 1000 })
+    (record { address = 4; state = 4; exchange = Sent Association; left = 9; hold = 0; query = query.None; identifier = 0 }) Association 1 0 Absent .peer .state
     ≡ 2
 heard-two = heard-rejection _ _ Association 1 0 Absent refl (λ (z : 1 ≡ 0). omega arith)

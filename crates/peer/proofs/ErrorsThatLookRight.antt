@@ -4,14 +4,13 @@
 --     hear-kept, ask-kept, not-freed       no frame and no primitive takes a record its address; a deauthentication frees no place
 -- Assumes nothing.
 use Prim.Native.Nat.{ℕ, _≤_, _<_}
-use mathlib.Core.Path.{_≡_, refl, _∙_}
+use mathlib.Core.Path.{_≡_, refl}
 use mathlib.Core.Bool.{Bool, true, false, not, _&&_, _||_}
 use native.Mathlib.Omega.{arith}
 use lib.Dec.{eqb, leb, ltb}
 use borrow.Author.Tests.{eq-eqb, eqb-true, leb-true, ltb-false, ne-eqb, not-false}
 use Rattle.octets.proofs.Branch.{by-bool, pick-both, pick-by}
 use Rattle.octets.specs.Address.{validOf}
-use Rattle.octets.specs.Pick.{pick}
 use Rattle.octets.specs.declared.class.FrameClass.{FrameClass}
 use Rattle.octets.specs.declared.class.FrameClass.the-variants.{One}
 use Rattle.octets.specs.declared.heard.Heard.the-variants as heard
@@ -21,22 +20,24 @@ use Rattle.octets.specs.declared.heard.Kind.{Kind}
 use Rattle.peer.specs.Ask.{answerOf, askOf, associateOf, awaitedOf, deauthenticateOf, declinedOf, disassociateOf, failedOf, reassociateOf, reportOf, reportedMove, respondOf, secureOf, startedOf}
 use Rattle.peer.specs.Association.{acceptedOf, rejectedOf, requestHeard, responseHeard}
 use Rattle.peer.specs.Authentication.{answeredMove, authenticationAtAp, authenticationAtStation, authenticationHeard, requestedOf}
+use Rattle.peer.specs.Challenge.{challengedOf, inquiredOf, isChallenged, passedOf, queryRequestHeard, queryResponseHeard, queryingOf}
 use Rattle.peer.specs.Codes.{lastAid}
 use Rattle.peer.specs.Farewell.{deauthenticationHeard, disassociationHeard}
 use Rattle.peer.specs.Filter.{passesOf}
-use Rattle.peer.specs.Hear.{actOf, groupHeard, hearOf, isExchange}
+use Rattle.peer.specs.Hear.{actOf, groupHeard, hearOf, isExchange, isQuery}
 use Rattle.peer.specs.Moves.{movedOf}
-use Rattle.peer.specs.Record.{askedOf, awaitingOf, changedOf, isFree, isSent}
+use Rattle.peer.specs.Query.{isRunning}
+use Rattle.peer.specs.Record.{askedOf, awaitingOf, changedOf, isFree, isSent, queriedOf}
 use Rattle.peer.specs.Refuse.{codeAllowed, mismatchOf}
 use Rattle.peer.specs.Settings.{ap, station}
 use Rattle.peer.specs.Turn.{begunOf, endedOf, repliedOf, soleOf, stillOf, turnOf}
-use Rattle.peer.specs.declared.moves.Move.the-variants as move
+use Rattle.peer.specs.declared.query.Query.the-variants as query
 use Rattle.peer.specs.declared.record.Exchange.the-variants.{Awaiting, None}
 use Rattle.peer.specs.declared.record.Record.{Record}
 use Rattle.peer.specs.declared.refuse.Others.{Others}
 use Rattle.peer.specs.declared.settings.Settings.{Settings}
 use Rattle.peer.specs.declared.turn.Turn.{Turn}
-use Rattle.peer.specs.Fit.{askedFits, awaitingFits, holdFits, recordFits, stands}
+use Rattle.peer.specs.Fit.{askedFits, awaitingFits, holdFits, queryAllowed, recordFits, stands}
 use Rattle.peer.proofs.Fits.{Fits, asked-stands, clash, fits-of, sent-station, wrong}
 use Rattle.peer.proofs.Keeps.{declined-no-higher}
 
@@ -47,7 +48,7 @@ NoHigher p t = t .peer .state ≤ p .state
 
 module _ (s : Settings) (role : s .role ≡ ap) (p : Record) (f : Fits s p) where
   act-no-higher : (h : Heard) → NoHigher p (actOf s p h)
-  unfolding stillOf repliedOf turnOf begunOf endedOf changedOf authenticationHeard authenticationAtAp requestedOf deauthenticationHeard disassociationHeard requestHeard responseHeard
+  unfolding stillOf repliedOf turnOf begunOf endedOf changedOf authenticationHeard authenticationAtAp requestedOf deauthenticationHeard disassociationHeard requestHeard responseHeard queryRequestHeard queryResponseHeard challengedOf queryingOf passedOf queriedOf
   act-no-higher heard.Other = omega arith
   act-no-higher (heard.Authentication algorithm transaction status) =
       pick-by (NoHigher p) (eqb (s .role) ap)
@@ -57,7 +58,10 @@ module _ (s : Settings) (role : s .role ≡ ap) (p : Record) (f : Fits s p) wher
       pick-by (NoHigher p) (ltb (p .state) 2) (λ l. omega arith) (λ l. let two : 2 ≤ p .state = ltb-false (p .state) 2 l in omega arith)
   act-no-higher (heard.Disassociation reason) =
       pick-by (NoHigher p) (ltb (p .state) 3) (λ l. omega arith) (λ l. let three : 3 ≤ p .state = ltb-false (p .state) 3 l in omega arith)
-  act-no-higher (heard.Request k current) = pick-both (NoHigher p) (eqb (s .role) ap) (omega arith) (omega arith)
+  act-no-higher (heard.Request k current) =
+      pick-both (NoHigher p) (eqb (s .role) ap) (pick-both (NoHigher p) (isChallenged s p) (omega arith) (omega arith)) (omega arith)
+  act-no-higher (heard.QueryRequest i) = pick-both (NoHigher p) (eqb (p .state) 4) (omega arith) (omega arith)
+  act-no-higher (heard.QueryResponse i) = pick-both (NoHigher p) (eqb (p .state) 4 && (isRunning (p .query) && eqb i (p .identifier))) (omega arith) (omega arith)
   act-no-higher (heard.Response k status aid c) =
       pick-by (NoHigher p) (isSent k (p .exchange))
       (λ e. clash (eq-eqb (s .role) ap role) (sent-station (p .exchange) k (s .role) (p .state) (p .left) (f .suits) e))
@@ -70,7 +74,7 @@ pub heard-no-higher :
 unfolding hearOf groupHeard stillOf repliedOf turnOf
 heard-no-higher s role p f k group h =
     pick-both (NoHigher p) (not (passesOf k (p .state))) (omega arith)
-    (pick-both (NoHigher p) group (pick-both (NoHigher p) (isExchange h) (omega arith) acts) acts)
+    (pick-both (NoHigher p) group (pick-both (NoHigher p) (isExchange h) (omega arith) (pick-both (NoHigher p) (isQuery h) (omega arith) acts)) acts)
   where
     acts : NoHigher p (actOf s p h)
     acts = act-no-higher s role p f h
@@ -91,7 +95,7 @@ kept l = absurd (omega arith)
 pub raised-by :
     (s : Settings) (p : Record) → Fits s p → (aid : ℕ) (o : Others) (q code : ℕ) → codeAllowed q code ≡ true → mismatchOf p o q ≡ false
     → p .state < askOf s aid p o q code .peer .state → Raises p q code
-unfolding askOf codeAllowed mismatchOf startedOf answerOf answeredMove reportedMove deauthenticateOf associateOf reassociateOf failedOf disassociateOf respondOf awaitedOf declinedOf secureOf reportOf turnOf begunOf endedOf changedOf
+unfolding askOf codeAllowed mismatchOf startedOf answerOf answeredMove reportedMove deauthenticateOf associateOf reassociateOf failedOf disassociateOf respondOf awaitedOf declinedOf secureOf reportOf inquiredOf queriedOf turnOf begunOf endedOf changedOf
 raised-by s p f aid o q code allowed mismatch =
     pick-by (Only p q code) (eqb q 1) (λ e. kept) (λ e1.
     pick-by (Only p q code) (eqb q 2) (λ e. authenticated (eqb-true q 2 e)) (λ e2.
@@ -102,8 +106,7 @@ raised-by s p f aid o q code allowed mismatch =
     pick-by (Only p q code) (eqb q 7) (λ e. let z = eqb-true q 7 e in responded kind.Association 2 refl (not-false _ (rw z at mismatch))) (λ e7.
     pick-by (Only p q code) (eqb q 8) (λ e. let z = eqb-true q 8 e in responded kind.Reassociation 3 refl (not-false _ (rw z at mismatch))) (λ e8.
     pick-by (Only p q code) (eqb q 9) (λ e. keyed (eqb-true q 9 e)) (λ e9.
-    by-bool (eqb q 10) (λ e. let z = eqb-true q 10 e in reported z (rw z at mismatch))
-    (λ e. wrong (simp (e1, e2, e3, e4, e5, e6, e7, e8, e9, e) at allowed)))))))))))
+    pick-by (Only p q code) (eqb q 10) (λ e. let z = eqb-true q 10 e in reported z (rw z at mismatch)) (λ e10. kept))))))))))
   where
     authenticated : q ≡ 2 → Only p q code (answerOf s p code)
     authenticated z = by-bool (eqb code 0)
@@ -176,7 +179,7 @@ Kept p t = t .peer .address ≡ p .address
 
 module _ (s : Settings) (p : Record) where
   act-kept : (h : Heard) → Kept p (actOf s p h)
-  unfolding stillOf repliedOf turnOf soleOf begunOf endedOf changedOf authenticationHeard authenticationAtAp authenticationAtStation requestedOf deauthenticationHeard disassociationHeard requestHeard responseHeard acceptedOf rejectedOf
+  unfolding stillOf repliedOf turnOf soleOf begunOf endedOf changedOf authenticationHeard authenticationAtAp authenticationAtStation requestedOf deauthenticationHeard disassociationHeard requestHeard responseHeard acceptedOf rejectedOf queryRequestHeard queryResponseHeard challengedOf queryingOf passedOf queriedOf
   act-kept heard.Other = refl
   act-kept (heard.Authentication algorithm transaction status) =
       pick-both (Kept p) (eqb (s .role) ap)
@@ -184,7 +187,9 @@ module _ (s : Settings) (p : Record) where
       (pick-both (Kept p) (eqb algorithm 0 && (eqb transaction 2 && isSent kind.Authentication (p .exchange))) refl refl)
   act-kept (heard.Deauthentication reason) = pick-both (Kept p) (ltb (p .state) 2) refl refl
   act-kept (heard.Disassociation reason) = pick-both (Kept p) (ltb (p .state) 3) refl refl
-  act-kept (heard.Request k current) = pick-both (Kept p) (eqb (s .role) ap) refl refl
+  act-kept (heard.Request k current) = pick-both (Kept p) (eqb (s .role) ap) (pick-both (Kept p) (isChallenged s p) refl refl) refl
+  act-kept (heard.QueryRequest i) = pick-both (Kept p) (eqb (p .state) 4) refl refl
+  act-kept (heard.QueryResponse i) = pick-both (Kept p) (eqb (p .state) 4 && (isRunning (p .query) && eqb i (p .identifier))) refl refl
   act-kept (heard.Response k status aid c) =
       pick-both (Kept p) (isSent k (p .exchange))
       (pick-both (Kept p) (eqb status 0) (pick-both (Kept p) (eqb aid 0 || ltb lastAid aid) refl refl) refl)
@@ -195,21 +200,19 @@ module _ (s : Settings) (p : Record) where
   unfolding hearOf groupHeard stillOf repliedOf turnOf
   hear-kept k group h =
       pick-both (Kept p) (not (passesOf k (p .state))) refl
-      (pick-both (Kept p) group (pick-both (Kept p) (isExchange h) refl (act-kept h)) (act-kept h))
+      (pick-both (Kept p) group (pick-both (Kept p) (isExchange h) refl (pick-both (Kept p) (isQuery h) refl (act-kept h))) (act-kept h))
 
   -- and no primitive does.
   pub ask-kept : (aid : ℕ) (o : Others) (q code : ℕ) → Kept p (askOf s aid p o q code)
-  unfolding askOf startedOf answerOf deauthenticateOf associateOf reassociateOf failedOf disassociateOf respondOf awaitedOf declinedOf secureOf reportOf turnOf begunOf endedOf changedOf
+  unfolding askOf startedOf answerOf deauthenticateOf associateOf reassociateOf failedOf disassociateOf respondOf awaitedOf declinedOf secureOf reportOf inquiredOf queriedOf turnOf begunOf endedOf changedOf
   ask-kept aid o q code =
-      pick-both (Kept p) (eqb q 1) refl
-      (pick-both (Kept p) (eqb q 2) refl
-      (pick-both (Kept p) (eqb q 3) refl
+      pick-both (Kept p) (eqb q 1) refl (pick-both (Kept p) (eqb q 2) refl (pick-both (Kept p) (eqb q 3) refl
       (pick-both (Kept p) (eqb q 4) (pick-both (Kept p) (eqb (p .state) 1) refl refl)
       (pick-both (Kept p) (eqb q 5) (pick-both (Kept p) (eqb (o .associated) 0 || eqb (p .state) 1) refl refl)
       (pick-both (Kept p) (eqb q 6) (pick-both (Kept p) (ltb (p .state) 3) refl refl)
       (pick-both (Kept p) (eqb q 7) (pick-both (Kept p) (eqb code 0) refl refl)
       (pick-both (Kept p) (eqb q 8) (pick-both (Kept p) (eqb code 0) refl refl)
-      (pick-both (Kept p) (eqb q 9) refl refl))))))))
+      (pick-both (Kept p) (eqb q 9) refl (pick-both (Kept p) (eqb q 10) refl refl)))))))))
 
   -- So a deauthentication, heard or asked, leaves a record where it was, and no free place.
   pub not-freed :
@@ -225,13 +228,13 @@ module _ (s : Settings) (p : Record) where
 -- is awaited, and acknowledged.
 
 ours : ℕ → Settings
-ours role = record { own = 2; authentication = 100; association = 100; role = role; rsna = 0; edition = 1; protection = 0 }
+ours role = record { own = 2; authentication = 100; association = 100; role = role; rsna = 0; edition = 1; protection = 0; retry = 201; maximum = 1000 }
 
 peer : ℕ → Record
-peer state = record { address = 4; state = state; exchange = None; left = 0; hold = 0 }
+peer state = record { address = 4; state = state; exchange = None; left = 0; hold = 0; query = query.None; identifier = 0 }
 
 awaiting : Record
-awaiting = record { address = 4; state = 2; exchange = Awaiting kind.Association; left = 0; hold = 0 }
+awaiting = record { address = 4; state = 2; exchange = Awaiting kind.Association; left = 0; hold = 0; query = query.None; identifier = 0 }
 
 four-at-ap : askOf (ours ap) 1 (hearOf (ours ap) (peer 4) One false (heard.Authentication 0 1 0) .peer) nobody 2 0 .peer .state ≡ 4
 unfolding ours peer
@@ -242,7 +245,7 @@ unfolding ours peer
 four-at-station = repeated-at-station (ours station) (peer 4) One false 0 2 0 refl (omega arith) 1 nobody
 
 awaiting-fits : Fits (ours ap) awaiting
-unfolding ours awaiting recordFits holdFits awaitingFits askedFits stands validOf
+unfolding ours awaiting recordFits queryAllowed holdFits awaitingFits askedFits stands validOf
 awaiting-fits = fits-of (ours ap) awaiting refl
 
 raised : Raises awaiting 10 1

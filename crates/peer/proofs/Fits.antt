@@ -1,25 +1,23 @@
 -- What one record must be, as facts; and a record that comes of another and keeps them.
 -- Assumes nothing.
-use Prim.Native.Nat.{ℕ, _≤_, _<_}
+use Prim.Native.Nat.{ℕ, _≤_}
 use mathlib.Core.Path.{_≡_, refl, sym, _∙_}
 use mathlib.Core.Bool.{Bool, true, false, not, _&&_, _||_}
 use native.Mathlib.Omega.{arith}
 use lib.Dec.{eqb, leb}
-use borrow.Author.Tests.{le-leb, leb-false, leb-true, lt-leb, eqb-true}
-use Rattle.octets.proofs.Branch.{by-bool}
+use borrow.Author.Tests.{le-leb, leb-true, eqb-true}
 use Rattle.octets.specs.Address.{validOf}
 use Rattle.octets.specs.declared.heard.Kind.the-variants.{Association, Authentication, Reassociation}
 use Rattle.octets.specs.declared.heard.Kind.{Kind}
-use Rattle.peer.specs.Fit.{stands, askedFits, awaitingFits, sentFits, exchangeFits, holdFits, recordFits, placeFits}
-use Rattle.peer.specs.Moves.{movedOf}
-use Rattle.peer.specs.Record.{associates, changedOf, isAssociating, isFree, isJoined, isSent, underWay, askedOf}
+use Rattle.peer.specs.Fit.{stands, askedFits, awaitingFits, sentFits, exchangeFits, holdFits, queryAllowed, queryFits, recordFits, placeFits}
+use Rattle.peer.specs.Record.{associates, changedOf, isAssociating, isFree, isJoined, isSent, queriedOf, underWay, askedOf}
 use Rattle.peer.specs.Settings.{ap, station, timeFits}
-use Rattle.peer.specs.declared.moves.Move.the-variants as move
-use Rattle.peer.specs.declared.moves.Move.{Move}
+use Rattle.peer.specs.declared.query.Query.{Query}
 use Rattle.peer.specs.declared.record.Exchange.the-variants.{Asked, Awaiting, None, Sent}
 use Rattle.peer.specs.declared.record.Exchange.{Exchange}
 use Rattle.peer.specs.declared.record.Record.{Record}
 use Rattle.peer.specs.declared.settings.Settings.{Settings}
+use Rattle.peer.proofs.QueryFits.{in-fits}
 
 pub wrong : {P : Type 0} → _≡_ {A = Bool} false true → P
 wrong h = let z : _≡_ {A = ℕ} 0 1 = cc in absurd (omega arith)
@@ -47,20 +45,35 @@ pub record Fits (s : Settings) (p : Record) : Type 0 where
   pub valid : validOf (p .address) ≡ true
   pub held : holdFits (s .role) (p .hold) ≡ true
   pub suits : exchangeFits (p .exchange) (s .role) (p .state) (p .left) ≡ true
+  pub numbered : p .identifier ≤ 65535
+  pub queries : queryFits s (p .state) (p .query) ≡ true
 
 pub fits-of : (s : Settings) (p : Record) → recordFits s p ≡ true → Fits s p
-unfolding recordFits
+unfolding recordFits queryAllowed
 fits-of s p h =
     let a = both (leb 1 (p .state)) _ h in
     let b = both (leb (p .state) 4) _ (a .1) in
     let c = both (not (eqb (p .address) (s .own))) _ (b .1) in
     let d = both (validOf (p .address)) _ (c .1) in
     let e = both (holdFits (s .role) (p .hold)) _ (d .1) in
-    record { low = leb-true 1 (p .state) (a .0); high = leb-true (p .state) 4 (b .0); apart = c .0; valid = d .0; held = e .0; suits = e .1 }
+    let g = both (exchangeFits (p .exchange) (s .role) (p .state) (p .left)) _ (e .1) in
+    let i = both (leb (p .identifier) 65535) _ (g .1) in
+    record {
+      low = leb-true 1 (p .state) (a .0);
+      high = leb-true (p .state) 4 (b .0);
+      apart = c .0;
+      valid = d .0;
+      held = e .0;
+      suits = g .0;
+      numbered = leb-true (p .identifier) 65535 (i .0);
+      queries = i .1;
+    }
 
 pub of-fits : (s : Settings) (p : Record) → Fits s p → recordFits s p ≡ true
-unfolding recordFits
-of-fits s p f = rw (le-leb 1 (p .state) (f .low), le-leb (p .state) 4 (f .high), f .apart, f .valid, f .held) (f .suits)
+unfolding recordFits queryAllowed
+of-fits s p f =
+    rw (le-leb 1 (p .state) (f .low), le-leb (p .state) 4 (f .high), f .apart, f .valid, f .held, f .suits, le-leb (p .identifier) 65535 (f .numbered))
+    (f .queries)
 
 -- The record q comes of p: it fits, and has the same address; and at a station it is in State 3 or 4, or has a (re)association under way,
 -- only where p was so, or where any other record leaves State 3 or 4 with it (sole), or where no record had one (not busy).
@@ -81,51 +94,6 @@ pub placed : {s : Settings} {busy sole : Bool} {p q : Record} → Keeps s busy p
 unfolding placeFits
 placed {s} {q} k =
     record { place = or-right (isFree q) _ (of-fits s q (k .fits)); same = λ e. k .same; joins = k .joins; starts = k .starts }
-
--- ---- the states
-
-pub moved-low : (rsna state : ℕ) (m : Move) → 1 ≤ state → 1 ≤ movedOf rsna state m
-moved-low rsna state move.Keep h = h
-moved-low rsna state move.Authenticate h = by-bool (eqb state 1) (λ e. rw e (omega arith)) (λ e. rw e h)
-moved-low rsna state move.Deauthenticate h = omega arith
-moved-low rsna state move.Drop h = omega arith
-moved-low rsna state move.Lower h = by-bool (eqb state 4) (λ e. rw e (omega arith)) (λ e. rw e h)
-moved-low rsna state move.Join h = by-bool (eqb rsna 1) (λ e. rw e (omega arith)) (λ e. rw e (omega arith))
-moved-low rsna state move.Secure h = by-bool (eqb state 3) (λ e. rw e (omega arith)) (λ e. rw e h)
-
-pub moved-high : (rsna state : ℕ) (m : Move) → state ≤ 4 → movedOf rsna state m ≤ 4
-moved-high rsna state move.Keep h = h
-moved-high rsna state move.Authenticate h = by-bool (eqb state 1) (λ e. rw e (omega arith)) (λ e. rw e h)
-moved-high rsna state move.Deauthenticate h = omega arith
-moved-high rsna state move.Drop h = omega arith
-moved-high rsna state move.Lower h = by-bool (eqb state 4) (λ e. rw e (omega arith)) (λ e. rw e h)
-moved-high rsna state move.Join h = by-bool (eqb rsna 1) (λ e. rw e (omega arith)) (λ e. rw e (omega arith))
-moved-high rsna state move.Secure h = by-bool (eqb state 3) (λ e. rw e (omega arith)) (λ e. rw e h)
-
--- a move that does not raise a state to 3 or 4
-abbrev pub calm : Move → Bool
-calm move.Keep = true
-calm move.Authenticate = true
-calm move.Deauthenticate = true
-calm move.Drop = true
-calm move.Lower = true
-calm move.Join = false
-calm move.Secure = true
-
-pub calm-moved : (rsna state : ℕ) (m : Move) → calm m ≡ true → leb 3 (movedOf rsna state m) ≡ true → leb 3 state ≡ true
-calm-moved rsna state move.Keep c h = h
-calm-moved rsna state move.Authenticate c h = by-bool (eqb state 1) (λ e. wrong (rw e at h)) (λ e. rw e at h)
-calm-moved rsna state move.Deauthenticate c h = wrong h
-calm-moved rsna state move.Drop c h = wrong h
-calm-moved rsna state move.Lower c h = by-bool (eqb state 4) (λ e. rw (eqb-true state 4 e)) (λ e. rw e at h)
-calm-moved rsna state move.Join c h = wrong c
-calm-moved rsna state move.Secure c h =
-    by-bool (eqb state 3) (λ e. rw (eqb-true state 3 e)) (λ e. rw e at h)
-
-pub calm-low : (rsna state : ℕ) (m : Move) → calm m ≡ true → state < 3 → movedOf rsna state m < 3
-calm-low rsna state m c l = by-bool (leb 3 (movedOf rsna state m))
-    (λ h. clash (calm-moved rsna state m c h) (lt-leb 3 state l))
-    (λ h. leb-false 3 (movedOf rsna state m) h)
 
 -- ---- the exchanges
 
@@ -194,6 +162,17 @@ asked-stands (Sent k) n role state left h two q = wrong (rw (← eqb-true 0 n q)
 
 -- ---- a changed record
 
+-- what comes of what comes of p
+pub keeps-on :
+    {s : Settings} {busy sole : Bool} {p q r : Record} → Keeps s busy p q false → Keeps s busy q r sole → Keeps s busy p r sole
+keeps-on k l =
+    record {
+      fits = l .fits;
+      same = l .same ∙ k .same;
+      joins = λ a b j. k .joins a refl (l .joins a b j);
+      starts = λ a b j. k .starts a b (l .starts a b j);
+    }
+
 module _ (s : Settings) (busy : Bool) (p : Record) (f : Fits s p) where
   pub keeps-all : Keeps s busy p p false
   keeps-all = record { fits = f; same = refl; joins = λ a b c. c; starts = λ a b c. c }
@@ -207,8 +186,39 @@ module _ (s : Settings) (busy : Bool) (p : Record) (f : Fits s p) where
   unfolding changedOf isJoined associates
   keeps-changed state e left hold sole low high held suits joins starts =
       record {
-        fits = record { low = low; high = high; apart = f .apart; valid = f .valid; held = held; suits = suits };
+        fits =
+            record {
+              low = low;
+              high = high;
+              apart = f .apart;
+              valid = f .valid;
+              held = held;
+              suits = suits;
+              numbered = f .numbered;
+              queries = in-fits s (p .state) (p .query) state (f .queries);
+            };
         same = refl;
         joins = joins;
         starts = starts;
+      }
+
+  pub keeps-queried :
+      (q : Query) (identifier : ℕ) → identifier ≤ 65535 → queryFits s (p .state) q ≡ true → Keeps s busy p (queriedOf p q identifier) false
+  unfolding queriedOf isJoined associates
+  keeps-queried q identifier short suits =
+      record {
+        fits =
+            record {
+              low = f .low;
+              high = f .high;
+              apart = f .apart;
+              valid = f .valid;
+              held = f .held;
+              suits = f .suits;
+              numbered = short;
+              queries = suits;
+            };
+        same = refl;
+        joins = λ a b j. j;
+        starts = λ a b j. j;
       }

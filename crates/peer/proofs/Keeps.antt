@@ -14,12 +14,14 @@ use Rattle.octets.specs.declared.heard.Kind.{Kind}
 use Rattle.peer.specs.Ask.{declinedMove}
 use Rattle.peer.specs.Association.{partedOf}
 use Rattle.peer.specs.Authentication.{answeredMove}
-use Rattle.peer.specs.Fit.{exchangeFits, holdFits, placeFits, recordFits, stands}
+use Rattle.peer.specs.Fit.{exchangeFits, holdFits, placeFits, queryFits, recordFits, stands}
 use Rattle.peer.specs.Moves.{movedOf}
-use Rattle.peer.specs.Record.{associates, changedOf, freshOf, isFree, isJoined, underWay}
-use Rattle.peer.specs.Settings.{ap}
+use Rattle.peer.specs.Query.{queryLeft}
+use Rattle.peer.specs.Record.{associates, changedOf, freshOf, isFree, isJoined, queriedOf, underWay}
+use Rattle.peer.specs.Settings.{ap, settingsFit}
 use Rattle.peer.specs.Turn.{begunOf, endedOf, repliedOf, stillOf, turnOf}
 use Rattle.peer.specs.declared.moves.Move.{Move}
+use Rattle.peer.specs.declared.query.Query.{Query}
 use Rattle.peer.specs.declared.record.Exchange.the-variants.{None}
 use Rattle.peer.specs.declared.record.Exchange.{Exchange}
 use Rattle.peer.specs.declared.record.Record.{Record}
@@ -27,7 +29,9 @@ use Rattle.peer.specs.declared.reply.Reply.{Reply}
 use Rattle.peer.specs.declared.settings.Settings.{Settings}
 use Rattle.peer.specs.declared.turn.Told.{Told}
 use Rattle.peer.specs.declared.turn.Turn.{Turn}
-use Rattle.peer.proofs.Fits.{Fits, Keeps, both, calm, calm-moved, fits-of, keeps-all, keeps-changed, moved-high, moved-low, of-fits, or-right, suits-still, wrong}
+use Rattle.peer.proofs.Fits.{Fits, Keeps, both, fits-of, keeps-all, keeps-changed, keeps-queried, of-fits, or-right, suits-still, wrong}
+use Rattle.peer.proofs.Moved.{calm, calm-moved, moved-high, moved-low}
+use Rattle.peer.proofs.QueryFits.{left-short, maximum-short}
 
 -- a turn that keeps what a record must be
 abbrev pub Turns : Settings → Bool → Record → Turn → Type 0
@@ -63,7 +67,7 @@ declined-no-higher s state two =
     (pick-both (λ m. movedOf (s .rsna) state m ≤ state) (eqb (s .protection) 1) (omega arith)
     (pick-by (λ (n : ℕ). n ≤ state) (eqb state 4) (λ e. let z = eqb-true state 4 e in omega arith) (λ e. omega arith)))
 
--- turns of a record that fits: it stays; its exchange ends; one begins
+-- turns of a record that fits: it stays; its exchange ends; one begins; its query is another
 module _ {s : Settings} {busy : Bool} {p : Record} (f : Fits s p) where
   pub turned : (v : ℕ) (told : Told) (r : Reply) → Turns s busy p (turnOf s p p v told r)
   unfolding turnOf
@@ -94,6 +98,12 @@ module _ {s : Settings} {busy : Bool} {p : Record} (f : Fits s p) where
   begun e left v told r suits starts =
       keeps-changed s busy p f (p .state) e left (p .hold) false (f .low) (f .high) (f .held) suits (λ a b j. j) starts
 
+  pub queried :
+      (q : Query) (identifier v : ℕ) (told : Told) (r : Reply) → identifier ≤ 65535 → queryFits s (p .state) q ≡ true
+      → Turns s busy p (turnOf s p (queriedOf p q identifier) v told r)
+  unfolding turnOf
+  queried q identifier v told r short suits = keeps-queried s busy p f q identifier short suits
+
 -- a place with a valid address is not free
 pub found-fits : (s : Settings) (p : Record) → placeFits s p ≡ true → validOf (p .address) ≡ true → Fits s p
 unfolding placeFits isFree validOf
@@ -112,7 +122,13 @@ fresh-fits s a e v =
       valid = v;
       held = or-right (not (eqb (s .role) ap)) true refl;
       suits = refl;
+      numbered = omega arith;
+      queries = refl;
     }
+
+-- what is left of its query has two octets
+pub query-soon : (s : Settings) (p : Record) → settingsFit s ≡ true → Fits s p → queryLeft (p .query) ≤ 65535
+query-soon s p fit f = let l = left-short s (p .state) (p .query) (f .queries) in let m = maximum-short s fit in omega arith
 
 -- a free place is in State 0
 clash-free : {P : Type 0} (p : Record) → isFree p ≡ true → ltb (p .state) 3 ≡ false → P

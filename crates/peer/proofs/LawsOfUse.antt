@@ -1,12 +1,12 @@
 -- Laws that a user of the rules relies on, at one peer: what can set a hold, what can raise a state to 3 or 4, and where a deauthentication
 -- ends. Each is about the definitions that the code is proved equal to.
 -- Assumes nothing.
-use Prim.Native.Nat.{ℕ, _+_, _-_, _≤_, _<_}
+use Prim.Native.Nat.{ℕ, _-_, _≤_, _<_}
 use mathlib.Core.Path.{_≡_, refl, sym, _∙_}
 use mathlib.Core.Bool.{Bool, true, false, not, _&&_, _||_}
 use native.Mathlib.Omega.{arith}
 use lib.Dec.{ltb, eqb}
-use borrow.Author.Tests.{ltb-true, eqb-true, eqb-false}
+use borrow.Author.Tests.{ltb-true, eqb-true}
 use Rattle.octets.specs.Pick.{pick}
 use Rattle.octets.proofs.Branch.{by-bool, pick-both, pick-by}
 use Rattle.octets.specs.declared.class.FrameClass.{FrameClass}
@@ -17,23 +17,25 @@ use Rattle.octets.specs.declared.heard.Heard.{Heard}
 use Rattle.octets.specs.declared.heard.Heard.the-variants as heard
 use Rattle.peer.specs.Codes.{lastAid}
 use Rattle.peer.specs.Settings.{ap}
-use Rattle.peer.specs.Record.{changedOf, freeOf, isSent, underWay}
+use Rattle.peer.specs.Record.{changedOf, freeOf, isSent, queriedOf, underWay}
 use Rattle.peer.specs.Moves.{movedOf}
 use Rattle.peer.specs.Turn.{admit, discard, confirmOf, toldOf, turnOf, soleOf, endedOf, begunOf, repliedOf, stillOf}
 use Rattle.peer.specs.Filter.{passesOf}
 use Rattle.peer.specs.Authentication.{requestedOf, authenticationAtAp, authenticationAtStation, authenticationHeard, answeredMove}
 use Rattle.peer.specs.Farewell.{deauthenticationHeard, disassociationHeard}
 use Rattle.peer.specs.Association.{requestHeard, acceptedOf, rejectedOf, responseHeard}
-use Rattle.peer.specs.Hear.{isExchange, actOf, groupHeard, hearOf}
+use Rattle.peer.specs.Challenge.{challengedOf, inquiredOf, isChallenged, passedOf, queryRequestHeard, queryResponseHeard, queryingOf}
+use Rattle.peer.specs.Query.{isRunning}
+use Rattle.peer.specs.Hear.{isExchange, isQuery, actOf, groupHeard, hearOf}
 use Rattle.peer.specs.Ask.{startedOf, answerOf, deauthenticateOf, failedOf, associateOf, reassociateOf, disassociateOf, awaitedOf, declinedMove, declinedOf, respondOf, secureOf, reportedMove, reportOf, askOf}
-use Rattle.peer.specs.Tick.{timedOf, freedOf, tickOf}
+use Rattle.peer.specs.Tick.{timedOf, freedOf, queriedTimed, tickOf}
 use Rattle.peer.specs.declared.settings.Settings.{Settings}
 use Rattle.peer.specs.declared.record.Record.{Record}
 use Rattle.peer.specs.declared.refuse.Others.{Others}
 use Rattle.peer.specs.declared.moves.Move.the-variants as move
 use Rattle.peer.specs.declared.reply.Reply.the-variants.{Silent}
 use Rattle.peer.specs.declared.turn.Turn.{Turn}
-use Rattle.peer.proofs.Fits.{calm-low}
+use Rattle.peer.proofs.Moved.{calm-low}
 use Rattle.peer.proofs.Keeps.{answered-calm, declined-calm}
 
 -- ---- Holds
@@ -49,9 +51,11 @@ setsHold (heard.Deauthentication reason) = false
 setsHold (heard.Disassociation reason) = true
 setsHold (heard.Request k current) = false
 setsHold (heard.Response k status aid c) = not (eqb status 0)
+setsHold (heard.QueryRequest identifier) = false
+setsHold (heard.QueryResponse identifier) = false
 
 act-held : (s : Settings) (p : Record) (h : Heard) → setsHold h ≡ false → Held p (actOf s p h)
-unfolding Held stillOf repliedOf turnOf authenticationHeard authenticationAtAp authenticationAtStation requestedOf begunOf endedOf changedOf deauthenticationHeard requestHeard responseHeard acceptedOf soleOf
+unfolding Held stillOf repliedOf turnOf authenticationHeard authenticationAtAp authenticationAtStation requestedOf begunOf endedOf changedOf deauthenticationHeard requestHeard responseHeard acceptedOf soleOf queryRequestHeard queryResponseHeard challengedOf queryingOf passedOf queriedOf
 act-held s p heard.Other e = refl
 act-held s p (heard.Authentication a t st) e =
     pick-both (Held p) (eqb (s .role) ap)
@@ -59,7 +63,9 @@ act-held s p (heard.Authentication a t st) e =
     (pick-both (Held p) (eqb a 0 && (eqb t 2 && isSent kind.Authentication (p .exchange))) refl refl)
 act-held s p (heard.Deauthentication r) e = pick-both (Held p) (ltb (p .state) 2) refl refl
 act-held s p (heard.Disassociation r) e = let z : _≡_ {A = Bool} true false = e in cc
-act-held s p (heard.Request k c) e = pick-both (Held p) (eqb (s .role) ap) refl refl
+act-held s p (heard.Request k c) e = pick-both (Held p) (eqb (s .role) ap) (pick-both (Held p) (isChallenged s p) refl refl) refl
+act-held s p (heard.QueryRequest i) e = pick-both (Held p) (eqb (p .state) 4) refl refl
+act-held s p (heard.QueryResponse i) e = pick-both (Held p) (eqb (p .state) 4 && (isRunning (p .query) && eqb i (p .identifier))) refl refl
 act-held s p (heard.Response k st aid c) e =
     pick-both (Held p) (isSent k (p .exchange)) (accepted (eqb st 0) e) refl
   where
@@ -72,11 +78,11 @@ pub hold-kept-heard : (s : Settings) (p : Record) (k : FrameClass) (g : Bool) (h
 unfolding Held hearOf groupHeard repliedOf stillOf turnOf
 hold-kept-heard s p k g h e =
     pick-both (Held p) (not (passesOf k (p .state))) refl
-    (pick-both (Held p) g (pick-both (Held p) (isExchange h) refl (act-held s p h e)) (act-held s p h e))
+    (pick-both (Held p) g (pick-both (Held p) (isExchange h) refl (pick-both (Held p) (isQuery h) refl (act-held s p h e))) (act-held s p h e))
 
 -- No primitive sets a hold.
 pub hold-kept-asked : (s : Settings) (aid : ℕ) (p : Record) (o : Others) (q code : ℕ) → askOf s aid p o q code .peer .hold ≡ p .hold
-unfolding Held askOf startedOf answerOf deauthenticateOf associateOf reassociateOf failedOf disassociateOf respondOf awaitedOf declinedOf secureOf reportOf turnOf begunOf endedOf changedOf
+unfolding Held askOf startedOf answerOf deauthenticateOf associateOf reassociateOf failedOf disassociateOf respondOf awaitedOf declinedOf secureOf reportOf inquiredOf queriedOf turnOf begunOf endedOf changedOf
 hold-kept-asked s aid p o q code =
     pick-both (Held p) (eqb q 1) refl
     (pick-both (Held p) (eqb q 2) refl
@@ -86,7 +92,8 @@ hold-kept-asked s aid p o q code =
     (pick-both (Held p) (eqb q 6) (pick-both (Held p) (ltb (p .state) 3) refl refl)
     (pick-both (Held p) (eqb q 7) (pick-both (Held p) (eqb code 0) refl refl)
     (pick-both (Held p) (eqb q 8) (pick-both (Held p) (eqb code 0) refl refl)
-    (pick-both (Held p) (eqb q 9) refl refl))))))))
+    (pick-both (Held p) (eqb q 9) refl
+    (pick-both (Held p) (eqb q 10) refl refl)))))))))
 
 -- "A comeback of 0 is a hold of 0."
 pub comeback-zero : (s : Settings) (p : Record) (k : Kind) (status : ℕ) → rejectedOf s p k status (Given 0) .peer .hold ≡ 0
@@ -111,8 +118,8 @@ freed-hold q = by-bool (eqb (q .state) 1 && (eqb (q .hold) 0 && eqb (underWay (q
     gone e = rw e (sym (eqb-true (q .hold) 0 (both-zero (eqb (q .state) 1) (eqb (q .hold) 0) (eqb (underWay (q .exchange)) 0) e)))
 
 pub hold-after-step : (s : Settings) (p : Record) (d : ℕ) → tickOf s p d .peer .hold ≡ p .hold - d
-unfolding tickOf
-hold-after-step s p d = freed-hold (timedOf s p d .peer) ∙ timed-hold s p d
+unfolding tickOf queriedTimed queriedOf
+hold-after-step s p d = freed-hold (queriedTimed s (timedOf s p d .peer) d) ∙ timed-hold s p d
 
 -- ---- States
 
@@ -127,6 +134,8 @@ joins p (heard.Authentication algorithm transaction status) = false
 joins p (heard.Deauthentication reason) = false
 joins p (heard.Disassociation reason) = false
 joins p (heard.Request k current) = false
+joins p (heard.QueryRequest identifier) = false
+joins p (heard.QueryResponse identifier) = false
 joins p (heard.Response k status aid c) = isSent k (p .exchange) && (eqb status 0 && not (eqb aid 0 || ltb lastAid aid))
 
 answered-low : (s : Settings) (p : Record) (status : ℕ) → p .state < 3 → movedOf (s .rsna) (p .state) (answeredMove status) < 3
@@ -136,7 +145,7 @@ declined-low : (s : Settings) (p : Record) → p .state < 3 → movedOf (s .rsna
 declined-low s p l = calm-low (s .rsna) (p .state) (declinedMove s) (declined-calm s) l
 
 act-low : (s : Settings) (p : Record) (h : Heard) → p .state < 3 → joins p h ≡ false → Low (actOf s p h)
-unfolding Low stillOf repliedOf turnOf authenticationHeard authenticationAtAp authenticationAtStation requestedOf begunOf endedOf changedOf deauthenticationHeard disassociationHeard requestHeard responseHeard acceptedOf rejectedOf soleOf
+unfolding Low stillOf repliedOf turnOf authenticationHeard authenticationAtAp authenticationAtStation requestedOf begunOf endedOf changedOf deauthenticationHeard disassociationHeard requestHeard responseHeard acceptedOf rejectedOf soleOf queryRequestHeard queryResponseHeard challengedOf queryingOf passedOf queriedOf
 act-low s p heard.Other l e = l
 act-low s p (heard.Authentication a t st) l e =
     pick-both Low (eqb (s .role) ap)
@@ -144,7 +153,9 @@ act-low s p (heard.Authentication a t st) l e =
     (pick-both Low (eqb a 0 && (eqb t 2 && isSent kind.Authentication (p .exchange))) (answered-low s p st l) l)
 act-low s p (heard.Deauthentication r) l e = pick-both Low (ltb (p .state) 2) l (omega arith)
 act-low s p (heard.Disassociation r) l e = pick-both Low (ltb (p .state) 3) l (omega arith)
-act-low s p (heard.Request k c) l e = pick-both Low (eqb (s .role) ap) l l
+act-low s p (heard.Request k c) l e = pick-both Low (eqb (s .role) ap) (pick-both Low (isChallenged s p) l l) l
+act-low s p (heard.QueryRequest i) l e = pick-both Low (eqb (p .state) 4) l l
+act-low s p (heard.QueryResponse i) l e = pick-both Low (eqb (p .state) 4 && (isRunning (p .query) && eqb i (p .identifier))) l l
 act-low s p (heard.Response k st aid c) l e =
     pick-by Low (isSent k (p .exchange)) (λ sent. answered (eqb st 0) (eqb aid 0 || ltb lastAid aid) (rw sent at e)) (λ sent. l)
   where
@@ -159,15 +170,12 @@ pub rises-heard : (s : Settings) (p : Record) (k : FrameClass) (g : Bool) (h : H
 unfolding Low hearOf groupHeard repliedOf stillOf turnOf
 rises-heard s p k g h l e =
     pick-both Low (not (passesOf k (p .state))) l
-    (pick-both Low g (pick-both Low (isExchange h) l (act-low s p h l e)) (act-low s p h l e))
+    (pick-both Low g (pick-both Low (isExchange h) l (pick-both Low (isQuery h) l (act-low s p h l e))) (act-low s p h l e))
 
-above : (q k : ℕ) → k ≤ q → eqb q k ≡ false → k + 1 ≤ q
-above q k h e = let n = eqb-false q k e in omega arith
-
--- And no primitive but a transmit report with code 1. (A number outside 1 to 10 is refused before.)
-pub rises-asked : (s : Settings) (aid : ℕ) (p : Record) (o : Others) (q code : ℕ) → p .state < 3 → (q ≡ 10 → code ≡ 1 → ⊥) → 1 ≤ q → q ≤ 10 → askOf s aid p o q code .peer .state < 3
-unfolding Low askOf startedOf answerOf deauthenticateOf associateOf reassociateOf failedOf disassociateOf respondOf awaitedOf declinedOf secureOf reportOf reportedMove turnOf begunOf endedOf changedOf
-rises-asked s aid p o q code l other one ten =
+-- And no primitive but a transmit report with code 1.
+pub rises-asked : (s : Settings) (aid : ℕ) (p : Record) (o : Others) (q code : ℕ) → p .state < 3 → (q ≡ 10 → code ≡ 1 → ⊥) → askOf s aid p o q code .peer .state < 3
+unfolding Low askOf startedOf answerOf deauthenticateOf associateOf reassociateOf failedOf disassociateOf respondOf awaitedOf declinedOf secureOf reportOf reportedMove inquiredOf queriedOf turnOf begunOf endedOf changedOf
+rises-asked s aid p o q code l other =
     pick-by Low (eqb q 1) (λ e. l) (λ f1.
     pick-by Low (eqb q 2) (λ e. answered-low s p code l) (λ f2.
     pick-by Low (eqb q 3) (λ e. omega arith) (λ f3.
@@ -177,17 +185,11 @@ rises-asked s aid p o q code l other one ten =
     pick-by Low (eqb q 7) (λ e. pick-both Low (eqb code 0) l (declined-low s p l)) (λ f7.
     pick-by Low (eqb q 8) (λ e. pick-both Low (eqb code 0) l (declined-low s p l)) (λ f8.
     pick-by Low (eqb q 9) (λ e. secured (eqb (p .state) 3) refl) (λ f9.
-    reported (eqb code 1) refl (last f1 f2 f3 f4 f5 f6 f7 f8 f9))))))))))
+    pick-by Low (eqb q 10) (λ e. reported (eqb code 1) refl (eqb-true q 10 e)) (λ f10. l))))))))))
   where
     secured : (b : Bool) → eqb (p .state) 3 ≡ b → pick b 4 (p .state) < 3
     secured true e = let z = eqb-true (p .state) 3 e in absurd (omega arith)
     secured false e = l
-
-    last : eqb q 1 ≡ false → eqb q 2 ≡ false → eqb q 3 ≡ false → eqb q 4 ≡ false → eqb q 5 ≡ false → eqb q 6 ≡ false → eqb q 7 ≡ false → eqb q 8 ≡ false → eqb q 9 ≡ false → q ≡ 10
-    last a b c d e f g h i =
-        let half = above q 4 (above q 3 (above q 2 (above q 1 one a) b) c) d in
-        let most = above q 9 (above q 8 (above q 7 (above q 6 (above q 5 half e) f) g) h) i in
-        omega arith
 
     reported : (b : Bool) → eqb code 1 ≡ b → q ≡ 10 → movedOf (s .rsna) (p .state) (pick b move.Join move.Keep) < 3
     reported true e t = absurd (other t (eqb-true code 1 e))
@@ -204,7 +206,7 @@ Admitted : Turn → Type 0
 Admitted t = t .verdict ≡ admit
 
 act-admitted : (s : Settings) (p : Record) (h : Heard) → Admitted (actOf s p h)
-unfolding Admitted stillOf repliedOf turnOf authenticationHeard authenticationAtAp authenticationAtStation requestedOf deauthenticationHeard disassociationHeard requestHeard responseHeard acceptedOf rejectedOf soleOf
+unfolding Admitted stillOf repliedOf turnOf authenticationHeard authenticationAtAp authenticationAtStation requestedOf deauthenticationHeard disassociationHeard requestHeard responseHeard acceptedOf rejectedOf soleOf queryRequestHeard queryResponseHeard challengedOf
 act-admitted s p heard.Other = refl
 act-admitted s p (heard.Authentication a t st) =
     pick-both Admitted (eqb (s .role) ap)
@@ -212,7 +214,9 @@ act-admitted s p (heard.Authentication a t st) =
     (pick-both Admitted (eqb a 0 && (eqb t 2 && isSent kind.Authentication (p .exchange))) refl refl)
 act-admitted s p (heard.Deauthentication r) = pick-both Admitted (ltb (p .state) 2) refl refl
 act-admitted s p (heard.Disassociation r) = pick-both Admitted (ltb (p .state) 3) refl refl
-act-admitted s p (heard.Request k c) = pick-both Admitted (eqb (s .role) ap) refl refl
+act-admitted s p (heard.Request k c) = pick-both Admitted (eqb (s .role) ap) (pick-both Admitted (isChallenged s p) refl refl) refl
+act-admitted s p (heard.QueryRequest i) = pick-both Admitted (eqb (p .state) 4) refl refl
+act-admitted s p (heard.QueryResponse i) = pick-both Admitted (eqb (p .state) 4 && (isRunning (p .query) && eqb i (p .identifier))) refl refl
 act-admitted s p (heard.Response k st aid c) =
     pick-both Admitted (isSent k (p .exchange))
     (pick-both Admitted (eqb st 0) (pick-both Admitted (eqb aid 0 || ltb lastAid aid) refl refl) refl)
@@ -229,4 +233,4 @@ pub discard-turn : (s : Settings) (p : Record) (k : FrameClass) (g : Bool) (h : 
 unfolding Kept hearOf groupHeard repliedOf stillOf turnOf
 discard-turn s p k g h =
     pick-both (Kept p) (not (passesOf k (p .state))) (λ v. (refl, refl))
-    (pick-both (Kept p) g (pick-both (Kept p) (isExchange h) (λ v. (refl, refl)) (act-kept s p h)) (act-kept s p h))
+    (pick-both (Kept p) g (pick-both (Kept p) (isExchange h) (λ v. (refl, refl)) (pick-both (Kept p) (isQuery h) (λ v. (refl, refl)) (act-kept s p h))) (act-kept s p h))

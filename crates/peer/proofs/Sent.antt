@@ -17,7 +17,7 @@ use Rattle.octets.specs.declared.frame.Body.{Body}
 use Rattle.octets.specs.declared.heard.Heard.{Heard}
 use Rattle.peer.specs.Reply.{apAddress, sendOf}
 use Rattle.peer.specs.Said.{Speaks}
-use Rattle.peer.specs.Settings.{ap, settingsFit, station, timeFits}
+use Rattle.peer.specs.Settings.{ap, queryTimesFit, settingsFit, station, timeFits}
 use Rattle.peer.specs.declared.settings.Settings.{Settings}
 
 -- a valid address has six octets
@@ -45,14 +45,15 @@ module _ (s : Settings) (fit : settingsFit s ≡ true) where
   own-valid : validOf (s .own) ≡ true
   unfolding settingsFit
   own-valid =
-      and-right (leb (s .edition) 2) _
+      and-right (queryTimesFit s) _
+      (and-right (leb (s .edition) 2) _
       (and-right (not (eqb (s .edition) 0)) _
       (and-right (leb (s .protection) 1) _
       (and-right (timeFits (s .association)) _
       (and-right (timeFits (s .authentication)) _
       (and-right (leb (s .rsna) 1) _
       (and-right (leb (s .role) 2) _
-      (and-right (not (eqb (s .role) 0)) _ fit)))))))
+      (and-right (not (eqb (s .role) 0)) _ fit))))))))
 
   third : (peer : ℕ) → apAddress s peer ≡ pick (eqb (s .role) station) peer (s .own)
   unfolding apAddress

@@ -9,15 +9,18 @@ use borrow.Author.Tests.{eq-eqb, ne-eqb, eqb-true, le-leb, leb-true, ltb-true}
 use Rattle.octets.proofs.Branch.{by-bool}
 use Rattle.peer.specs.Fit.{holdFits, placeFits}
 use Rattle.peer.specs.Moves.{movedOf}
-use Rattle.peer.specs.Record.{associates, changedOf, freeOf, isFree, isJoined, underWay}
+use Rattle.peer.specs.Query.{queryNumber, queryTimed}
+use Rattle.peer.specs.Record.{associates, changedOf, freeOf, isFree, isJoined, queriedOf, underWay}
 use Rattle.peer.specs.Settings.{ap}
-use Rattle.peer.specs.Tick.{expiredMove, freedOf, tickOf, timedOf}
+use Rattle.peer.specs.Tick.{expiredMove, freedOf, queriedTimed, tickOf, timedOf}
 use Rattle.peer.specs.Turn.{endedOf}
 use Rattle.peer.specs.declared.moves.Move.{Move}
 use Rattle.peer.specs.declared.record.Exchange.the-variants.{None}
 use Rattle.peer.specs.declared.record.Record.{Record}
 use Rattle.peer.specs.declared.settings.Settings.{Settings}
-use Rattle.peer.proofs.Fits.{Fits, Keeps, Placed, both, calm, calm-moved, fits-of, keeps-changed, moved-high, moved-low, placed, suits-still, wrong}
+use Rattle.peer.proofs.Fits.{Fits, Keeps, Placed, both, fits-of, keeps-changed, keeps-on, keeps-queried, placed, suits-still, wrong}
+use Rattle.peer.proofs.Moved.{calm, calm-moved, moved-high, moved-low}
+use Rattle.peer.proofs.QueryFits.{none-stays, timed-fits}
 
 -- the statement
 abbrev pub ClockKeeps : Type 0
@@ -71,18 +74,29 @@ freed-placed {q} k = by-bool (eqb (q .state) 1 && (eqb (q .hold) 0 && eqb (under
     (λ e. rw e free-placed)
     (λ e. rw e k)
 
+-- what is left of a query falls
+queried-keeps : (s : Settings) (p : Record) (d : ℕ) → Fits s p → Keeps s true p (queriedTimed s p d) false
+unfolding queriedTimed
+queried-keeps s p d f =
+    keeps-queried s true p f (queryTimed s (p .query) d) (p .identifier) (f .numbered) (timed-fits s (p .state) (p .query) d (f .queries))
+
+step-keeps : (s : Settings) (p : Record) (d : ℕ) → Fits s p → Keeps s true p (queriedTimed s (timedOf s p d .peer) d) false
+step-keeps s p d f = let k = timed-keeps s p d f in keeps-on k (queried-keeps s (timedOf s p d .peer) d (k .fits))
+
 -- a free place stays free
-free-timed : (s : Settings) (p : Record) (d : ℕ) → isFree p ≡ true → Placed s true p (timedOf s p d .peer) false
-unfolding placeFits isFree isJoined associates timedOf changedOf
+free-timed : (s : Settings) (p : Record) (d : ℕ) → isFree p ≡ true → Placed s true p (queriedTimed s (timedOf s p d .peer) d) false
+unfolding placeFits isFree isJoined associates timedOf changedOf queriedTimed queriedOf
 free-timed s p d h =
     let a = both (eqb (p .address) 0) _ h in
     let b = both (eqb (p .state) 0) _ (a .1) in
     let l = both (eqb (p .left) 0) _ (b .1) in
     let k = both (eqb (p .hold) 0) _ (l .1) in
+    let i = both (eqb (p .identifier) 0) _ (k .1) in
+    let q = both (eqb (queryNumber (p .query)) 0) _ (i .1) in
     let z : p .hold ≡ 0 = eqb-true (p .hold) 0 (k .0) in
     let z′ : eqb (p .hold - d) 0 ≡ true = eq-eqb (p .hold - d) 0 (omega arith) in
-    rw (l .0) (record { place = rw (a .0, b .0, z′, k .1); same = λ e. refl; joins = λ a b j. j; starts = λ a b j. j })
+    rw (l .0) (record { place = rw (a .0, b .0, z′, i .0, none-stays s (p .state) d (p .query) (q .0), q .1); same = λ e. refl; joins = λ a b j. j; starts = λ a b j. j })
 
 pub tick-keeps : ClockKeeps
 unfolding tickOf placeFits
-tick-keeps s p d h = freed-placed (by-bool (isFree p) (free-timed s p d) (λ e. placed (timed-keeps s p d (fits-of s p (rw e at h)))))
+tick-keeps s p d h = freed-placed (by-bool (isFree p) (free-timed s p d) (λ e. placed (step-keeps s p d (fits-of s p (rw e at h)))))

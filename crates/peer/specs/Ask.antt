@@ -8,6 +8,7 @@ use Rattle.octets.specs.declared.heard.Kind.the-variants.{Association, Authenti
 use Rattle.octets.specs.declared.heard.Kind.{Kind}
 use Rattle.peer.specs.Codes.{statusRefused}
 use Rattle.peer.specs.Authentication.{answeredMove}
+use Rattle.peer.specs.Challenge.{inquiredOf}
 use Rattle.peer.specs.Moves.{movedOf}
 use Rattle.peer.specs.Record.{changedOf}
 use Rattle.peer.specs.Reply.{authenticationTo, deauthenticationTo, disassociationTo, requestTo, responseTo}
@@ -106,5 +107,6 @@ askOf s aid p o q code =
     (pick (eqb q 7) (respondOf s aid p Association code)
     (pick (eqb q 8) (respondOf s aid p Reassociation code)
     (pick (eqb q 9) (secureOf s p)
-    -- 10: another number is refused 3 before.
-    (reportOf s p code)))))))))
+    (pick (eqb q 10) (reportOf s p code)
+    -- 11: another number is refused 3 before.
+    (inquiredOf s p))))))))))

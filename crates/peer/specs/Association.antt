@@ -9,6 +9,7 @@ use Rattle.octets.specs.declared.element.Comeback.{Comeback}
 use Rattle.octets.specs.declared.heard.Kind.{Kind}
 use Rattle.peer.specs.Codes.{lastAid}
 use Rattle.peer.specs.Authentication.{requestedOf}
+use Rattle.peer.specs.Challenge.{challengedOf, isChallenged, passedOf}
 use Rattle.peer.specs.Moves.{movedOf}
 use Rattle.peer.specs.Record.{changedOf, defaultHold, isSent}
 use Rattle.peer.specs.Settings.{ap}
@@ -19,9 +20,12 @@ use Rattle.peer.specs.declared.reply.Reply.the-variants.{Silent}
 use Rattle.peer.specs.declared.settings.Settings.{Settings}
 use Rattle.peer.specs.declared.turn.Turn.{Turn}
 
--- "(Re)association request, AP"
+-- "(Re)association request, AP"; 02, K5: one that is met by a query, and one that passes
 unfoldable pub requestHeard : Settings → Record → Kind → ℕ → Turn
-requestHeard s p k current = pick (eqb (s .role) ap) (requestedOf s p k current) (stillOf s p admit)
+requestHeard s p k current =
+    pick (eqb (s .role) ap)
+    (pick (isChallenged s p) (challengedOf s p k) (requestedOf s (passedOf p) k current))
+    (stillOf s p admit)
 
 -- "hold set: the first element .. gives its 4-octet value in TU; without one, 1,954 for any status (house)". "A comeback of 0 is a hold of 0."
 abbrev pub comebackHold : Comeback → ℕ

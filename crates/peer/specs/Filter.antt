@@ -44,6 +44,8 @@ barredBy s p k (heard.Deauthentication reason) = filteredOf s p k
 barredBy s p k (heard.Disassociation reason) = filteredOf s p k
 barredBy s p k (heard.Request kind current) = requestBarred s p k kind
 barredBy s p k (heard.Response kind status aid comeback) = filteredOf s p k
+barredBy s p k (heard.QueryRequest identifier) = filteredOf s p k
+barredBy s p k (heard.QueryResponse identifier) = filteredOf s p k
 
 -- "Otherwise discard, and if Address 1 is individual reply"
 unfoldable pub barredOf : Settings → Record → FrameClass → Bool → Heard → Reply

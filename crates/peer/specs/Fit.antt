@@ -8,6 +8,8 @@ use Rattle.octets.specs.Pick.{pick}
 use Rattle.octets.specs.declared.heard.Kind.{Kind}
 use Rattle.peer.specs.Record.{isAssociating, isFree}
 use Rattle.peer.specs.Settings.{ap, station, timeFits}
+use Rattle.peer.specs.declared.query.Query.the-variants as query
+use Rattle.peer.specs.declared.query.Query.{Query}
 use Rattle.peer.specs.declared.record.Exchange.the-variants.{Asked, Awaiting, None, Sent}
 use Rattle.peer.specs.declared.record.Exchange.{Exchange}
 use Rattle.peer.specs.declared.record.Record.{Record}
@@ -39,14 +41,31 @@ exchangeFits (Sent k) role state left = sentFits k role state left
 unfoldable pub holdFits : ℕ → ℕ → Bool
 holdFits role hold = leb hold 4294967295 && (not (eqb role ap) || eqb hold 0)
 
--- "each in State 1 to 4"; "outside free places no address is invalid, own"; the hold and the exchange as above
+-- 02, K5: "Well formed allows a query or mark only in State 4 at an AP, remaining 1 to the maximum."
+unfoldable pub queryStands : Settings → ℕ → Bool
+queryStands s state = eqb (s .role) ap && eqb state 4
+
+unfoldable pub runningFits : Settings → ℕ → ℕ → Bool
+runningFits s state left = not (eqb left 0) && (leb left (s .maximum) && queryStands s state)
+
+abbrev pub queryFits : Settings → ℕ → Query → Bool
+queryFits s state query.None = true
+queryFits s state (query.Running left due) = runningFits s state left
+queryFits s state query.TimedOut = queryStands s state
+
+-- "a two-octet identifier": any, outside free places
+unfoldable pub queryAllowed : Settings → Record → Bool
+queryAllowed s p = leb (p .identifier) 65535 && queryFits s (p .state) (p .query)
+
+-- "each in State 1 to 4"; "outside free places no address is invalid, own"; the hold, the exchange and the query as above
 unfoldable pub recordFits : Settings → Record → Bool
 recordFits s p =
     leb 1 (p .state) && (leb (p .state) 4
     && (not (eqb (p .address) (s .own))
     && (validOf (p .address)
     && (holdFits (s .role) (p .hold)
-    && exchangeFits (p .exchange) (s .role) (p .state) (p .left)))))
+    && (exchangeFits (p .exchange) (s .role) (p .state) (p .left)
+    && queryAllowed s p)))))
 
 -- "each in State 1 to 4 or all zero"
 unfoldable pub placeFits : Settings → Record → Bool

@@ -1,5 +1,6 @@
 pub mod Settings
 pub mod Codes
+pub mod Query
 pub mod Record
 pub mod Fit
 pub mod Moves
@@ -8,6 +9,7 @@ pub mod Turn
 pub mod Filter
 pub mod Authentication
 pub mod Farewell
+pub mod Challenge
 pub mod Association
 pub mod Hear
 pub mod Refuse

@@ -6,6 +6,9 @@ use lib.Dec.{eqb, leb}
 use Rattle.octets.specs.Pick.{pick}
 use Rattle.octets.specs.declared.heard.Kind.the-variants.{Association, Authentication, Reassociation}
 use Rattle.octets.specs.declared.heard.Kind.{Kind}
+use Rattle.peer.specs.Query.{queryIn, queryNumber}
+use Rattle.peer.specs.declared.query.Query.the-variants as query
+use Rattle.peer.specs.declared.query.Query.{Query}
 use Rattle.peer.specs.declared.record.Exchange.the-variants.{Asked, Awaiting, None, Sent}
 use Rattle.peer.specs.declared.record.Exchange.{Exchange}
 use Rattle.peer.specs.declared.record.Record.{Record}
@@ -81,20 +84,49 @@ isJoined p = leb 3 (p .state)
 unfoldable pub associates : Record → Bool
 associates p = leb (kindOf Association) (underWay (p .exchange))
 
--- "a fresh record has one fixed form: State 1, no exchange, times zero"
+-- "a fresh record has one fixed form: State 1, no exchange, times zero"; 02, K5: "The identifier starts at 0", and no query runs
 unfoldable pub freshOf : ℕ → Record
-freshOf a = record { address = a; state = 1; exchange = None; left = 0; hold = 0 }
+freshOf a = record { address = a; state = 1; exchange = None; left = 0; hold = 0; query = query.None; identifier = 0 }
 
 -- "A free place is all zero."
 abbrev pub freeOf : Record
-freeOf = record { address = 0; state = 0; exchange = None; left = 0; hold = 0 }
+freeOf = record { address = 0; state = 0; exchange = None; left = 0; hold = 0; query = query.None; identifier = 0 }
 
 unfoldable pub isFree : Record → Bool
-isFree p = eqb (p .address) 0 && (eqb (p .state) 0 && (eqb (p .left) 0 && (eqb (p .hold) 0 && eqb (underWay (p .exchange)) 0)))
+isFree p =
+    eqb (p .address) 0 && (eqb (p .state) 0
+    && (eqb (p .left) 0
+    && (eqb (p .hold) 0
+    && (eqb (p .identifier) 0
+    && (eqb (queryNumber (p .query)) 0
+    && eqb (underWay (p .exchange)) 0)))))
 
--- The record of the same peer with another state, exchange and times.
+-- The record of the same peer with another state, exchange and times. 02, K5: "Leaving State 4 clears both", the query and the mark: here, and
+-- nowhere else; the identifier "is kept in the record".
 unfoldable pub changedOf : Record → ℕ → Exchange → ℕ → ℕ → Record
-changedOf p state e left hold = record { address = p .address; state = state; exchange = e; left = left; hold = hold }
+changedOf p state e left hold =
+    record {
+      address = p .address;
+      state = state;
+      exchange = e;
+      left = left;
+      hold = hold;
+      query = queryIn state (p .query);
+      identifier = p .identifier;
+    }
+
+-- The same record with another query: "the record else untouched".
+unfoldable pub queriedOf : Record → Query → ℕ → Record
+queriedOf p q identifier =
+    record {
+      address = p .address;
+      state = p .state;
+      exchange = p .exchange;
+      left = p .left;
+      hold = p .hold;
+      query = q;
+      identifier = identifier;
+    }
 
 -- "2 s is 1,953.125 TU." In whole TU, rounded up.
 abbrev pub defaultHold : ℕ

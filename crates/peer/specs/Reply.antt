@@ -55,3 +55,17 @@ requestTo s peer k current = sendOf s peer (requestSubtype k) (requestBody k (ca
 -- capability, status, AID
 unfoldable pub responseTo : Settings → ℕ → Kind → ℕ → ℕ → Reply
 responseTo s peer k status aid = sendOf s peer (responseSubtype k) (body.Response (capabilityOf (s .rsna)) status aid)
+
+-- 02, K5: "status 30, AID 0 and a Timeout Interval element of type 3 with the query's remaining TU"
+unfoldable pub laterTo : Settings → ℕ → Kind → ℕ → ℕ → Reply
+laterTo s peer k status time = sendOf s peer (responseSubtype k) (body.Later (capabilityOf (s .rsna)) status time)
+
+-- "Queries are Action frames of category 8, request 0 and response 1, with a two-octet identifier": Action is subtype 13.
+abbrev pub queryRequest : ℕ
+queryRequest = 0
+
+abbrev pub queryResponse : ℕ
+queryResponse = 1
+
+unfoldable pub queryTo : Settings → ℕ → ℕ → ℕ → Reply
+queryTo s peer action identifier = sendOf s peer 13 (body.Query action identifier)

@@ -1,5 +1,6 @@
 // What a primitive from our own side does at one peer, where nothing refuses it.
 use crate::authentication::answered_move;
+use crate::challenge::inquired;
 use crate::codes::STATUS_REFUSED;
 use crate::moves::Move;
 use crate::moves::moved;
@@ -219,7 +220,8 @@ pub fn ask(s: Settings, aid: u16, p: Record, o: Others, primitive: u8, code: u16
         7 => respond(s, aid, p, Kind::Association, code),
         8 => respond(s, aid, p, Kind::Reassociation, code),
         9 => secure(s, p),
-        // 10: another number was refused before.
-        _ => report(s, p, code),
+        10 => report(s, p, code),
+        // 11: another number was refused before.
+        _ => inquired(s, p),
     }
 }

@@ -1,5 +1,8 @@
 // (Re)association: the request heard at an AP, the response heard at a station.
 use crate::authentication::requested;
+use crate::challenge::challenged;
+use crate::challenge::is_challenged;
+use crate::challenge::passed;
 use crate::codes::LAST_AID;
 use crate::moves::Move;
 use crate::moves::moved;
@@ -21,11 +24,13 @@ ghost use Rattle.peer.specs.Association.{acceptedOf, comebackHold, parte
 pub fn request_heard(s: Settings, p: Record, kind: Kind, current: u64) -> Turn
     ensures { λ r. ⌜ r ≡ requestHeard s p kind current ⌝ }
 {
-    if s.role == Settings::AP {
-        requested(s, p, kind, current)
-    } else {
-        still(s, p, Turn::ADMIT)
+    if s.role != Settings::AP {
+        return still(s, p, Turn::ADMIT);
     }
+    if is_challenged(s, p) {
+        return challenged(s, p, kind);
+    }
+    requested(s, passed(p), kind, current)
 }
 
 // The hold that a rejection sets. A comeback of 0 is a hold of 0.

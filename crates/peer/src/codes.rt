@@ -5,6 +5,8 @@ pub const STATUS_ALGORITHM: u16 = 13;
 
 pub const STATUS_FULL: u16 = 17;
 
+pub const STATUS_LATER: u16 = 30;
+
 pub const REASON_CLASS_2: u16 = 6;
 
 pub const REASON_CLASS_3: u16 = 7;

@@ -69,5 +69,7 @@ pub fn barred(s: Settings, p: Record, class: FrameClass, group: bool, h: Heard) 
         Heard::Disassociation(_) => filtered(s, p, class),
         Heard::Request { kind, current: _ } => request_barred(s, p, class, kind),
         Heard::Response { .. } => filtered(s, p, class),
+        Heard::QueryRequest(_) => filtered(s, p, class),
+        Heard::QueryResponse(_) => filtered(s, p, class),
     }
 }

@@ -1,4 +1,5 @@
 // Whether a record is well formed by itself.
+use crate::query::Query;
 use crate::record::Exchange;
 use crate::record::Record;
 use crate::record::associating;
@@ -6,7 +7,7 @@ use crate::settings::Settings;
 use octets::address::valid;
 use octets::heard::Kind;
 ghost use mathlib.Core.Path.{_≡_};
-ghost use Rattle.peer.specs.Fit.{askedFits, awaitingFits, exchangeFits, holdFits, placeFits, recordFits, sentFits, stands};
+ghost use Rattle.peer.specs.Fit.{askedFits, awaitingFits, exchangeFits, holdFits, placeFits, queryAllowed, queryFits, queryStands, recordFits, runningFits, sentFits, stands};
 
 // Whether a kind of exchange may stand in a state.
 fn standing(k: Kind, state: u8) -> bool
@@ -75,6 +76,47 @@ pub fn exchange_fits(e: Exchange, role: u8, state: u8, left: u16) -> bool
     }
 }
 
+// Whether a query or its mark may stand in a state.
+fn query_stands(s: Settings, state: u8) -> bool
+    ensures { λ r. ⌜ r ≡ queryStands s state ⌝ }
+{
+    if s.role != Settings::AP {
+        return false;
+    }
+    state == Record::STATE_4
+}
+
+fn running_fits(s: Settings, state: u8, left: u16) -> bool
+    ensures { λ r. ⌜ r ≡ runningFits s state left ⌝ }
+{
+    if left == 0 {
+        return false;
+    }
+    if s.maximum < left {
+        return false;
+    }
+    query_stands(s, state)
+}
+
+// Whether a query fits the settings and the state.
+fn query_fits(s: Settings, state: u8, q: Query) -> bool
+    ensures { λ r. ⌜ r ≡ queryFits s state q ⌝ }
+{
+    match q {
+        Query::None => true,
+        Query::Running { left, due: _ } => running_fits(s, state, left),
+        Query::TimedOut => query_stands(s, state),
+    }
+}
+
+// Whether a record's query fits; its identifier may be any.
+fn query_allowed(s: Settings, p: Record) -> bool
+    ensures { λ r. ⌜ r ≡ queryAllowed s p ⌝ }
+{
+    let q = p.query;
+    query_fits(s, p.state, q)
+}
+
 // Whether a record that is no free place is well formed by itself.
 fn record_fits(s: Settings, p: Record) -> bool
     ensures { λ r. ⌜ r ≡ recordFits s p ⌝ }
@@ -97,7 +139,10 @@ fn record_fits(s: Settings, p: Record) -> bool
     if hold_fits(s.role, p.hold) {} else {
         return false;
     }
-    exchange_fits(e, s.role, state, p.left)
+    if exchange_fits(e, s.role, state, p.left) {} else {
+        return false;
+    }
+    query_allowed(s, p)
 }
 
 // Whether a place is free or its record well formed by itself.

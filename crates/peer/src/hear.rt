@@ -2,6 +2,8 @@
 use crate::association::request_heard;
 use crate::association::response_heard;
 use crate::authentication::authentication_heard;
+use crate::challenge::query_request_heard;
+use crate::challenge::query_response_heard;
 use crate::farewell::deauthentication_heard;
 use crate::farewell::disassociation_heard;
 use crate::filter::barred;
@@ -16,7 +18,7 @@ use octets::heard::Heard;
 ghost use mathlib.Core.Path.{_≡_};
 ghost use mathlib.Core.Bool.{true};
 ghost use Rattle.octets.specs.declared.heard.Heard.the-variants as heard;
-ghost use Rattle.peer.specs.Hear.{actOf, groupHeard, hearOf, isExchange};
+ghost use Rattle.peer.specs.Hear.{actOf, groupHeard, hearOf, isExchange, isQuery};
 
 // Whether what is heard is part of an exchange: management subtypes 0 to 3 and 11.
 fn is_exchange(h: Heard) -> bool
@@ -29,6 +31,23 @@ fn is_exchange(h: Heard) -> bool
         Heard::Disassociation(_) => false,
         Heard::Request { .. } => true,
         Heard::Response { .. } => true,
+        Heard::QueryRequest(_) => false,
+        Heard::QueryResponse(_) => false,
+    }
+}
+
+fn is_query(h: Heard) -> bool
+    ensures { λ r. ⌜ r ≡ isQuery h ⌝ }
+{
+    match h {
+        Heard::Other => false,
+        Heard::Authentication { .. } => false,
+        Heard::Deauthentication(_) => false,
+        Heard::Disassociation(_) => false,
+        Heard::Request { .. } => false,
+        Heard::Response { .. } => false,
+        Heard::QueryRequest(_) => true,
+        Heard::QueryResponse(_) => true,
     }
 }
 
@@ -43,6 +62,8 @@ fn is_other(h: Heard) -> bool
         Heard::Disassociation(_) => false,
         Heard::Request { .. } => false,
         Heard::Response { .. } => false,
+        Heard::QueryRequest(_) => false,
+        Heard::QueryResponse(_) => false,
     }
 }
 
@@ -66,6 +87,8 @@ fn act(s: Settings, p: Record, h: Heard) -> Turn
             aid,
             comeback,
         } => response_heard(s, p, kind, status, aid, comeback),
+        Heard::QueryRequest(identifier) => query_request_heard(s, p, identifier),
+        Heard::QueryResponse(identifier) => query_response_heard(s, p, identifier),
     }
 }
 
@@ -74,10 +97,12 @@ fn group_heard(s: Settings, p: Record, h: Heard) -> Turn
     ensures { λ r. ⌜ r ≡ groupHeard s p h ⌝ }
 {
     if is_exchange(h) {
-        still(s, p, Turn::DISCARD)
-    } else {
-        act(s, p, h)
+        return still(s, p, Turn::DISCARD);
     }
+    if is_query(h) {
+        return still(s, p, Turn::ADMIT);
+    }
+    act(s, p, h)
 }
 
 // What a frame from a peer makes of it.

@@ -3,12 +3,14 @@
 pub mod ask;
 pub mod association;
 pub mod authentication;
+pub mod challenge;
 pub mod codes;
 pub mod farewell;
 pub mod filter;
 pub mod fit;
 pub mod hear;
 pub mod moves;
+pub mod query;
 pub mod record;
 pub mod refuse;
 pub mod reply;

@@ -1,7 +1,10 @@
-// A peer's record: its address, its state, the exchange under way and the times left.
+// A peer's record: its address, its state, the exchange under way, the times left, and a query to it.
+use crate::query::Query;
+use crate::query::query_in;
+use crate::query::query_number;
 use octets::heard::Kind;
 ghost use mathlib.Core.Path.{_≡_};
-ghost use Rattle.peer.specs.Record.{askedOf, associates, awaitingOf, changedOf, exchangeNumber, exchangeOf, freeOf, freshOf, isAssociating, isFree, isJoined, kindOf, sentOf, underWay};
+ghost use Rattle.peer.specs.Record.{askedOf, associates, awaitingOf, changedOf, exchangeNumber, exchangeOf, freeOf, freshOf, isAssociating, isFree, isJoined, kindOf, queriedOf, sentOf, underWay};
 
 // The exchange under way.
 pub enum Exchange {
@@ -21,6 +24,9 @@ pub struct Record {
     // TU left of the exchange, and of the hold.
     pub left: u16,
     pub hold: u32,
+    // An SA Query to the peer, and the identifier of its last one.
+    pub query: Query,
+    pub identifier: u16,
 }
 
 // The numbers of the kinds.
@@ -160,6 +166,8 @@ impl Record {
             exchange: Exchange::None,
             left: 0,
             hold: 0,
+            query: Query::None,
+            identifier: 0,
         }
     }
 
@@ -173,19 +181,40 @@ impl Record {
             exchange: Exchange::None,
             left: 0,
             hold: 0,
+            query: Query::None,
+            identifier: 0,
         }
     }
 
-    // The record of the same peer with another state, exchange and times.
+    // The record of the same peer with another state, exchange and times. A query ends where State 4 does.
     pub fn changed(self, state: u8, exchange: Exchange, left: u16, hold: u32) -> Record
         ensures { λ r. ⌜ r ≡ changedOf self state exchange left hold ⌝ }
     {
+        let query = self.query;
         Record {
             address: self.address,
             state,
             exchange,
             left,
             hold,
+            query: query_in(state, query),
+            identifier: self.identifier,
+        }
+    }
+
+    // The same record with another query.
+    pub fn queried(self, query: Query, identifier: u16) -> Record
+        ensures { λ r. ⌜ r ≡ queriedOf self query identifier ⌝ }
+    {
+        let exchange = self.exchange;
+        Record {
+            address: self.address,
+            state: self.state,
+            exchange,
+            left: self.left,
+            hold: self.hold,
+            query,
+            identifier,
         }
     }
 
@@ -203,6 +232,13 @@ impl Record {
             return false;
         }
         if self.hold != 0 {
+            return false;
+        }
+        if self.identifier != 0 {
+            return false;
+        }
+        let q = self.query;
+        if query_number(q) != 0 {
             return false;
         }
         let e = self.exchange;

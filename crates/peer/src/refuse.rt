@@ -1,4 +1,5 @@
 // What refuses a primitive at one peer: codes, roles, exchanges and states, holds. The order of refusals is the table's.
+use crate::query::is_due;
 use crate::record::ASSOCIATION;
 use crate::record::AUTHENTICATION;
 use crate::record::REASSOCIATION;
@@ -31,6 +32,7 @@ pub fn code_allowed(primitive: u8, code: u16) -> bool
         8 => true,
         9 => code == 0,
         10 => code <= 1,
+        11 => code == 0,
         _ => false,
     }
 }
@@ -47,6 +49,7 @@ pub fn role_allowed(primitive: u8, role: u8) -> bool
         7 => role == Settings::AP,
         8 => role == Settings::AP,
         10 => role == Settings::AP,
+        11 => role == Settings::AP,
         _ => true,
     }
 }
@@ -87,6 +90,7 @@ pub fn mismatch(p: Record, o: Others, primitive: u8) -> bool
     ensures { λ r. ⌜ r ≡ mismatchOf p o primitive ⌝ }
 {
     let e = p.exchange;
+    let q = p.query;
     match primitive {
         2 => asked(e) != AUTHENTICATION,
         4 => joined_elsewhere(p, o),
@@ -94,6 +98,7 @@ pub fn mismatch(p: Record, o: Others, primitive: u8) -> bool
         8 => asked(e) != REASSOCIATION,
         9 => p.state < Record::STATE_3,
         10 => awaiting(e) == 0,
+        11 => { if is_due(q) { false } else { true } }
         _ => false,
     }
 }

@@ -5,7 +5,7 @@ use octets::frame::Frame;
 use octets::frame::capability;
 use octets::heard::Kind;
 ghost use mathlib.Core.Path.{_≡_};
-ghost use Rattle.peer.specs.Reply.{apAddress, authenticationTo, deauthenticationTo, disassociationTo, requestBody, requestSubtype, requestTo, responseSubtype, responseTo, sendOf};
+ghost use Rattle.peer.specs.Reply.{apAddress, authenticationTo, deauthenticationTo, disassociationTo, laterTo, queryTo, requestBody, requestSubtype, requestTo, responseSubtype, responseTo, sendOf};
 
 pub enum Reply {
     Silent,
@@ -129,4 +129,29 @@ pub fn response(s: Settings, peer: u64, k: Kind, status: u16, aid: u16) -> Reply
             aid,
         },
     )
+}
+
+// A (re)association response that says when to come back.
+pub fn later(s: Settings, peer: u64, k: Kind, status: u16, time: u32) -> Reply
+    ensures { λ r. ⌜ r ≡ laterTo s peer k status time ⌝ }
+{
+    let subtype = response_subtype(k);
+    let capability = capability(s.rsna);
+    send(
+        s,
+        peer,
+        subtype,
+        Body::Later {
+            capability,
+            status,
+            time,
+        },
+    )
+}
+
+// An SA Query, request or response.
+pub fn query(s: Settings, peer: u64, action: u8, identifier: u16) -> Reply
+    ensures { λ r. ⌜ r ≡ queryTo s peer action identifier ⌝ }
+{
+    send(s, peer, Frame::ACTION, Body::Query { action, identifier })
 }

@@ -1,7 +1,7 @@
 // The settings of one access point or station. Any numbers may come in: `fit` says whether they are settings.
 use octets::address::valid;
 ghost use mathlib.Core.Path.{_≡_};
-ghost use Rattle.peer.specs.Settings.{settingsFit};
+ghost use Rattle.peer.specs.Settings.{queryTimesFit, settingsFit};
 
 #[repr(C)]
 pub struct Settings {
@@ -16,12 +16,28 @@ pub struct Settings {
     pub edition: u8,
     // Whether management frame protection is in use, 0 or 1.
     pub protection: u8,
+    // An SA Query's retry time and its maximum, in TU.
+    pub retry: u16,
+    pub maximum: u16,
 }
 
 impl Settings {
     pub const AP: u8 = 1;
 
     pub const STATION: u8 = 2;
+
+    // Whether the times of a query are in range.
+    fn query_times_fit(self) -> bool
+        ensures { λ r. ⌜ r ≡ queryTimesFit self ⌝ }
+    {
+        if self.retry == 0 {
+            return false;
+        }
+        if self.maximum == 0 {
+            return false;
+        }
+        true
+    }
 
     // Whether the settings are in range and the own address is valid.
     pub fn fit(self) -> bool
@@ -49,6 +65,9 @@ impl Settings {
             return false;
         }
         if 2 < self.edition {
+            return false;
+        }
+        if self.query_times_fit() {} else {
             return false;
         }
         let own = self.own;

@@ -1,5 +1,7 @@
 // What a clock step does at one record: the times fall, an exchange may end, and the place may be free again.
 use crate::moves::Move;
+use crate::query::query_report;
+use crate::query::query_timed;
 use crate::record::AUTHENTICATION;
 use crate::record::Record;
 use crate::record::under_way;
@@ -7,9 +9,9 @@ use crate::settings::Settings;
 use crate::turn::ended;
 ghost use mathlib.Core.Path.{_≡_};
 ghost use Prim.Native.Nat.{_-_};
-ghost use Rattle.peer.specs.Tick.{expiredMove, freedOf, tickOf, timedOf};
+ghost use Rattle.peer.specs.Tick.{expiredMove, freedOf, queriedTimed, reportedOf, tickOf, timedOf};
 
-// A record after a clock step, and the number of the kind of exchange that timed out, or 0.
+// A record after a clock step, and the kind of its report, or 0: the exchange that timed out, or what the step makes of a query.
 pub struct Ticked {
     pub peer: Record,
     pub report: u8,
@@ -74,14 +76,35 @@ fn freed(p: Record) -> Record
     if under_way(e) == 0 { Record::free() } else { p }
 }
 
+// What is left of a query falls too.
+fn queried_timed(s: Settings, p: Record, d: u16) -> Record
+    ensures { λ r. ⌜ r ≡ queriedTimed s p d ⌝ }
+{
+    let q = p.query;
+    p.queried(query_timed(s, q, d), p.identifier)
+}
+
+// One report a record: an exchange's, or a query's.
+fn reported(s: Settings, t: Ticked, d: u16) -> u8
+    ensures { λ r. ⌜ r ≡ reportedOf s t d ⌝ }
+{
+    if t.report != 0 {
+        return t.report;
+    }
+    let p = t.peer;
+    let q = p.query;
+    query_report(s, q, d)
+}
+
 // A clock step of d TU at one record.
 pub fn tick(s: Settings, p: Record, d: u16) -> Ticked
     ensures { λ r. ⌜ r ≡ tickOf s p d ⌝ }
 {
     let t = timed(s, p, d);
     let q = t.peer;
+    let report = reported(s, t, d);
     Ticked {
-        peer: freed(q),
-        report: t.report,
+        peer: freed(queried_timed(s, q, d)),
+        report,
     }
 }

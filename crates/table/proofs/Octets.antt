@@ -2,6 +2,7 @@ pub mod RowLaws
 pub mod RowStores
 pub mod RecordTrip
 pub mod Standings
+pub mod QueryStandings
 pub mod Surveys
 pub mod HostLaws
 pub mod BoundaryLaws

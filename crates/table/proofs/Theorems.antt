@@ -11,6 +11,8 @@ pub mod Well
 pub mod StepKeeps
 pub mod DiscardLeaves
 pub mod Editions
+pub mod EditionsAlike
+pub mod Forged
 pub mod PlacesKept
 pub mod SaidBack
 pub mod SaidExamples

@@ -16,15 +16,22 @@ use Rattle.table.specs.declared.rules.event.Event.{Event}
 
 -- Out of range, so refusal 2: "settings or table not well formed".
 abbrev pub noSettings : Settings
-noSettings = record { own = 0; authentication = 0; association = 0; role = 0; rsna = 0; edition = 0; protection = 0 }
+noSettings = record { own = 0; authentication = 0; association = 0; role = 0; rsna = 0; edition = 0; protection = 0; retry = 0; maximum = 0 }
 
 -- 01, The bench program: "role, own address, RSNA 0/1, two timeouts, 12 octets." 02, K2: "a bench settings record of 14 octets carries them
--- last, and one of 12 means edition 1, no protection". Octets that are not there are 0, so only the edition has to be said.
+-- last, and one of 12 means edition 1, no protection". Octets that are not there are 0, so of these only the edition has to be said.
+-- 02, K5: "a bench settings record of 18 octets carries them last, shorter ones mean 201 and 1,000": a query's retry time and its maximum.
 unfoldable pub settingsLength : ℕ → Bool
-settingsLength n = eqb n 12 || eqb n 14
+settingsLength n = eqb n 12 || (eqb n 14 || eqb n 18)
 
 unfoldable pub editionIn : List ℕ → ℕ
 editionIn xs = pick (ltb (length xs) 14) 1 (field 1 12 xs)
+
+unfoldable pub retryIn : List ℕ → ℕ
+retryIn xs = pick (ltb (length xs) 18) 201 (field 2 14 xs)
+
+unfoldable pub maximumIn : List ℕ → ℕ
+maximumIn xs = pick (ltb (length xs) 18) 1000 (field 2 16 xs)
 
 -- Of any other length: settings out of range.
 unfoldable pub settingsIn : List ℕ → Settings
@@ -38,6 +45,8 @@ settingsIn xs =
       rsna = field 1 7 xs;
       edition = editionIn xs;
       protection = field 1 13 xs;
+      retry = retryIn xs;
+      maximum = maximumIn xs;
     })
     noSettings
 

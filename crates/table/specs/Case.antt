@@ -5,6 +5,7 @@ use mathlib.Core.Bool.{Bool, true, false, _&&_}
 use mathlib.Core.List.{List, [], _∷_, _++_}
 use lib.Dec.{eqb}
 use lib.ListN.{length, replicate}
+use Rattle.peer.specs.Query.{queryLeft, queryNumber}
 use Rattle.peer.specs.Record.{askedOf, awaitingOf, freeOf, sentOf}
 use Rattle.peer.specs.declared.record.Record.{Record}
 use Rattle.peer.specs.declared.settings.Settings.{Settings}
@@ -42,10 +43,11 @@ unfoldable pub answerFields : Answer → List ℕ
 answerFields a =
     a .refusal ∷ a .verdict ∷ a .notice ∷ a .code ∷ a .written ∷ a .ds ∷ a .state ∷ a .current ∷ []
 
--- Address, state, the exchange under way (by the number of its kind), its time left, hold.
+-- Address, state, the exchange under way (by the number of its kind), its time left, hold; the query by its number, its time left, its identifier.
 unfoldable pub recordFields : Record → List ℕ
 recordFields p =
-    p .address ∷ p .state ∷ askedOf (p .exchange) ∷ awaitingOf (p .exchange) ∷ sentOf (p .exchange) ∷ p .left ∷ p .hold ∷ []
+    p .address ∷ p .state ∷ askedOf (p .exchange) ∷ awaitingOf (p .exchange) ∷ sentOf (p .exchange) ∷ p .left ∷ p .hold
+    ∷ queryNumber (p .query) ∷ queryLeft (p .query) ∷ p .identifier ∷ []
 
 unfoldable pub sameTable : List Record → List Record → Bool
 sameTable [] [] = true

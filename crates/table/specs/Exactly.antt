@@ -14,6 +14,7 @@ use Rattle.octets.specs.Class.{classOf, classless}
 use Rattle.octets.specs.Shape.{isBare, leastOf}
 use Rattle.octets.specs.Frame.{longest}
 use Rattle.octets.specs.declared.heard.Kind.the-variants.{Authentication, Association, Reassociation}
+use Rattle.peer.specs.Query.{isDue}
 use Rattle.peer.specs.Settings.{ap, station}
 use Rattle.peer.specs.Record.{associates, awaitingOf, isAsked, isFree, isJoined, underWay}
 use Rattle.peer.specs.declared.settings.Settings.{Settings}
@@ -105,7 +106,7 @@ plays at-station role = eqb role station
 plays at-ap role = eqb role ap
 plays at-both role = true
 
--- 01, "Primitives from our own side", its table: number, for whom, codes.
+-- 01, "Primitives from our own side", its table: number, for whom, codes; 02, K5: "a new primitive 11 (AP, code 0)".
 abbrev pub primitives : List Primitive
 primitives =
     record { number = 1; who = at-station; codes = zero-only }
@@ -118,6 +119,7 @@ primitives =
     ∷ record { number = 8; who = at-ap; codes = any }
     ∷ record { number = 9; who = at-both; codes = zero-only }
     ∷ record { number = 10; who = at-ap; codes = zero-or-one }
+    ∷ record { number = 11; who = at-ap; codes = zero-only }
     ∷ []
 
 -- Some line of that table has this number and passes a test.
@@ -146,7 +148,7 @@ underWayAlready t q a =
     || ((eqb q 4 || eqb q 5) && (peerHas t a hasExchange || someOf associates t))
 
 -- 7: "the primitive finds no matching exchange or state". 2, 7, 8: "unless that is asked"; 4: "if another record is in State 3 or 4";
--- 9: "State 3 to 4; State 4 kept; else 7"; 10: "unless awaited".
+-- 9: "State 3 to 4; State 4 kept; else 7"; 10: "unless awaited". 02, K5: "7 for primitive 11 without a query due".
 abbrev pub noMatch : List Record → ℕ → ℕ → Bool
 noMatch t q a =
     (eqb q 2 && not (peerHas t a (λ p. isAsked Authentication (p .exchange))))
@@ -154,7 +156,8 @@ noMatch t q a =
     || ((eqb q 7 && not (peerHas t a (λ p. isAsked Association (p .exchange))))
     || ((eqb q 8 && not (peerHas t a (λ p. isAsked Reassociation (p .exchange))))
     || ((eqb q 9 && not (peerHas t a isJoined))
-    || (eqb q 10 && not (peerHas t a (λ p. not (eqb (awaitingOf (p .exchange)) 0))))))))
+    || ((eqb q 10 && not (peerHas t a (λ p. not (eqb (awaitingOf (p .exchange)) 0))))
+    || (eqb q 11 && not (peerHas t a (λ p. isDue (p .query)))))))))
 
 -- 8: "the hold on this peer is above 0", for 4 and 5
 abbrev pub peerHeld : List Record → ℕ → ℕ → Bool

@@ -15,7 +15,7 @@ use Rattle.table.specs.declared.rules.answer.Answer.{Answer}
 use Rattle.table.specs.declared.rules.event.Event.{Event}
 use Rattle.table.specs.declared.rules.event.Event.the-variants as event
 
--- 1: the buffer is under 34 octets, "(256 for a clock step)".
+-- 1: the buffer is under 37 octets (02, K5), "(256 for a clock step)".
 abbrev pub roomOf : Event → ℕ
 roomOf event.Frame = longest
 roomOf (event.Ask q a c) = longest

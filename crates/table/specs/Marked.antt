@@ -1,4 +1,4 @@
--- 01, "Either side of each line": "Marked for proof are the nine steps above and: .. buffer 33 refused, 34 taken."
+-- 01, "Either side of each line": "Marked for proof are the nine steps above and: ..". 02, K5: "marked case: 36, 37".
 -- One table of cases, `marked`; proofs/Theorems/MarkedCases.antt proves `allOf comesOut marked ≡ true`.
 -- Assumes nothing.
 use Prim.Native.Nat.{ℕ}
@@ -8,6 +8,7 @@ use Rattle.peer.specs.Moves.{dsNone, dsJoined, dsLeft}
 use Rattle.peer.specs.Turn.{none, admit, discard}
 use Rattle.peer.specs.declared.record.Exchange.{Exchange}
 use Rattle.peer.specs.declared.record.Exchange.the-variants as exchange
+use Rattle.peer.specs.declared.query.Query.the-variants as query
 use Rattle.peer.specs.declared.record.Record.{Record}
 use Rattle.peer.specs.declared.settings.Settings.{Settings}
 use Rattle.table.specs.Case.{Case, Line}
@@ -29,12 +30,12 @@ us = 0x010000000002
 abbrev pub them : ℕ
 them = 0x0a0000000002
 
--- RSNA not required, timeouts of 100 TU.
+-- RSNA not required, timeouts of 100 TU; the first edition, and the times of a query that settings of 12 octets mean.
 abbrev pub asAp : Settings
-asAp = record { own = us; authentication = 100; association = 100; role = 1; rsna = 0; edition = 1; protection = 0 }
+asAp = record { own = us; authentication = 100; association = 100; role = 1; rsna = 0; edition = 1; protection = 0; retry = 201; maximum = 1000 }
 
 abbrev pub asStation : Settings
-asStation = record { own = us; authentication = 100; association = 100; role = 2; rsna = 0; edition = 1; protection = 0 }
+asStation = record { own = us; authentication = 100; association = 100; role = 2; rsna = 0; edition = 1; protection = 0; retry = 201; maximum = 1000 }
 
 -- Frame Control, duration 0, Address 1, Address 2, Address 3, sequence control 0, body.
 abbrev pub frameOf : ℕ → ℕ → List ℕ → List ℕ → List ℕ → List ℕ → List ℕ
@@ -97,9 +98,10 @@ asks = asksIn 256
 abbrev pub waits : ℕ → Answer → Line
 waits d answer = record { event = event.Clock d; frame = []; room = 256; answer = answer; said = [] }
 
--- The peer's record.
+-- The peer's record, without a query.
 abbrev pub peerIn : ℕ → Exchange → ℕ → ℕ → Record
-peerIn state e left hold = record { address = them; state = state; exchange = e; left = left; hold = hold }
+peerIn state e left hold =
+    record { address = them; state = state; exchange = e; left = left; hold = hold; query = query.None; identifier = 0 }
 
 -- The frames. Algorithm, transaction, status; capability, listen interval; reason; capability, status, AID, elements.
 abbrev pub authenticationRequest : List ℕ
@@ -218,17 +220,17 @@ cutShort =
       after = peerIn 2 (exchange.Sent kind.Association) 100 0 ∷ [];
     }
 
--- "buffer 33 refused, 34 taken": a frame, then a primitive.
+-- "buffer 33 refused, 34 taken", amended by 02, K5: 36 and 37. A frame, then a primitive.
 abbrev pub smallBuffer : Case
 smallBuffer =
     record {
       settings = asAp;
       before = [];
       lines =
-          hearsIn 33 authenticationRequest (refused 1) []
-          ∷ hearsIn 34 authenticationRequest (prints 0 admit 1 0 0 dsNone 1) []
-          ∷ asksIn 33 2 0 (refused 1) []
-          ∷ asksIn 34 2 0 (prints 0 none 0 0 30 dsNone 2) authenticationSaid
+          hearsIn 36 authenticationRequest (refused 1) []
+          ∷ hearsIn 37 authenticationRequest (prints 0 admit 1 0 0 dsNone 1) []
+          ∷ asksIn 36 2 0 (refused 1) []
+          ∷ asksIn 37 2 0 (prints 0 none 0 0 30 dsNone 2) authenticationSaid
           ∷ [];
       after = peerIn 2 exchange.None 0 0 ∷ [];
     }

@@ -30,10 +30,13 @@ spokenTo event.Frame xs = field 6 10 xs
 spokenTo (event.Ask q a c) xs = a
 spokenTo (event.Clock d) xs = 0
 
--- What is said: in reply to a frame, by its class, what it says and the peer's state; of a primitive, by its number and code, the AID of the
--- peer's place and the associated AP's address.
+-- What is said: in reply to a frame, by its class, what it says, the peer's state and the query to it; of a primitive, by its number and code,
+-- the AID of the peer's place, the associated AP's address and the identifier of the query to the peer.
 abbrev pub saysIn : Settings → List Record → Event → List ℕ → Heard
 saysIn s t event.Frame xs =
-    repliedSays s (peerOf t (findOf (addressesOf t) (field 6 10 xs)) (field 6 10 xs) .state) (numberOf (classOf xs)) (heardOf xs)
-saysIn s t (event.Ask q a c) xs = askedSays q c (aidOf (findOf (addressesOf t) a)) (othersOf s t .associated)
+    let p = peerOf t (findOf (addressesOf t) (field 6 10 xs)) (field 6 10 xs) in
+    repliedSays s (p .state) (p .query) (numberOf (classOf xs)) (heardOf xs)
+saysIn s t (event.Ask q a c) xs =
+    let at = findOf (addressesOf t) a in
+    askedSays q c (aidOf at) (othersOf s t .associated) (peerOf t at a .identifier)
 saysIn s t (event.Clock d) xs = heard.Other

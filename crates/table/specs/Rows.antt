@@ -1,32 +1,58 @@
--- The table as octets, as it crosses to a host: 32 rows of 16 octets. Octets to records, and back.
+-- The table as octets, as it crosses to a host: 32 rows of 24 octets. Octets to records, and back.
 -- Assumes nothing.
 use Prim.Native.Nat.{ℕ, zero, suc, _+_}
-use mathlib.Core.Bool.{Bool, true, _&&_}
+use mathlib.Core.Bool.{Bool, true, _&&_, _||_}
 use mathlib.Core.List.{List, [], _∷_, _++_}
 use lib.Dec.{leb, eqb}
 use lib.ListN.{length}
 use Rattle.octets.specs.Row.{rowAt, rowOctets}
 use Rattle.octets.specs.declared.row.Row.{Row}
+use Rattle.peer.specs.Query.{queryLeft, queryNumber, queryOf}
 use Rattle.peer.specs.Record.{exchangeNumber, exchangeOf}
 use Rattle.peer.specs.declared.record.Record.{Record}
 
--- A row's record, and a record's row. They differ in the exchange: a number, 0 to 9, and what it stands for.
+-- A row's record, and a record's row. They differ in the exchange and the query: a number, 0 to 9 and 0 to 3, and what it stands for.
 unfoldable pub recordOf : Row → Record
 recordOf r =
-    record { address = r .address; state = r .state; exchange = exchangeOf (r .exchange); left = r .left; hold = r .hold }
+    record {
+      address = r .address;
+      state = r .state;
+      exchange = exchangeOf (r .exchange);
+      left = r .left;
+      hold = r .hold;
+      query = queryOf (r .query) (r .remaining);
+      identifier = r .identifier;
+    }
 
 unfoldable pub rowOf : Record → Row
 rowOf p =
-    record { address = p .address; hold = p .hold; left = p .left; state = p .state; exchange = exchangeNumber (p .exchange) }
+    record {
+      address = p .address;
+      hold = p .hold;
+      left = p .left;
+      state = p .state;
+      exchange = exchangeNumber (p .exchange);
+      identifier = p .identifier;
+      remaining = queryLeft (p .query);
+      query = queryNumber (p .query);
+    }
 
--- The n records from octet k on; whether each has an exchange's number.
+-- Whether a query's number and what is left of it stand for a query: 0 to 3, and time is left of one that runs alone (1 and 2).
+unfoldable pub queryNumbered : ℕ → ℕ → Bool
+queryNumbered n left = leb n 3 && (eqb left 0 || (eqb n 1 || eqb n 2))
+
+-- Whether a row's numbers stand for something: each exchange has one from 0 to 9.
+unfoldable pub rowNumbered : Row → Bool
+rowNumbered r = queryNumbered (r .query) (r .remaining) && leb (r .exchange) 9
+
+-- The n records from octet k on; whether each row has such numbers.
 unfoldable pub recordsAt : ℕ → ℕ → List ℕ → List Record
 recordsAt zero k xs = []
-recordsAt (suc n) k xs = recordOf (rowAt k xs) ∷ recordsAt n (k + 16) xs
+recordsAt (suc n) k xs = recordOf (rowAt k xs) ∷ recordsAt n (k + 24) xs
 
 unfoldable pub numberedAt : ℕ → ℕ → List ℕ → Bool
 numberedAt zero k xs = true
-numberedAt (suc n) k xs = leb (rowAt k xs .exchange) 9 && numberedAt n (k + 16) xs
+numberedAt (suc n) k xs = rowNumbered (rowAt k xs) && numberedAt n (k + 24) xs
 
 -- Octets to records ..
 abbrev pub recordsOf : List ℕ → List Record
@@ -37,6 +63,6 @@ unfoldable pub octetsOf : List Record → List ℕ
 octetsOf [] = []
 octetsOf (p ∷ ps) = rowOctets (rowOf p) ++ octetsOf ps
 
--- Whether octets are a table at all: 512, and each exchange a number from 0 to 9. Any other is refusal 2.
+-- Whether octets are a table at all: 768, and the numbers of each exchange and query stand for one. Any other is refusal 2.
 unfoldable pub isTable : List ℕ → Bool
-isTable xs = eqb (length xs) 512 && numberedAt 32 0 xs
+isTable xs = eqb (length xs) 768 && numberedAt 32 0 xs

@@ -3,12 +3,14 @@
 -- Assumes nothing.
 use Prim.Native.Nat.{ℕ, _≤_}
 use mathlib.Core.Path.{_≡_}
-use mathlib.Core.Bool.{Bool, not, _&&_}
+use mathlib.Core.Bool.{Bool, not, _&&_, _||_}
 use mathlib.Core.List.{List, []}
 use lib.Dec.{leb, eqb}
 use lib.ListN.{length, take, drop}
 use Rattle.octets.specs.Pick.{pick}
 use Rattle.octets.specs.Frame.{longest, bytesOf}
+use Rattle.peer.specs.Query.{isRunning, queryLeft, reaches}
+use Rattle.peer.specs.declared.query.Query.{Query}
 use Rattle.peer.specs.declared.settings.Settings.{Settings}
 use Rattle.peer.specs.declared.record.Record.{Record}
 use Rattle.peer.specs.declared.reply.Reply.{Reply}
@@ -31,7 +33,7 @@ stepBytes s t event.Frame xs n = replyBytes (receivedOf s t xs n .reply)
 stepBytes s t (event.Ask q a c) xs n = replyBytes (askedOf s t q a c n .reply)
 stepBytes s t (event.Clock d) xs n = pick (eqb (firstOf (passRefusals s t d n)) 0) (reportsOf s d 0 t) []
 
--- "output buffer under 34 bytes (256 for a clock step)"
+-- 02, K5: "1 now below 37 bytes but for the clock"; "(256 for a clock step)"
 abbrev pub mostOf : Event → ℕ
 mostOf event.Frame = longest
 mostOf (event.Ask q a c) = longest
@@ -49,3 +51,11 @@ pub record Written (most : ℕ) (vs l k : List ℕ) (w : ℕ) : Type 0 where
 -- "An exchange whose time falls to 0 from above ends", in a clock step of d TU.
 abbrev pub timesOut : ℕ → Record → Bool
 timesOut d p = not (eqb (p .left) 0) && leb (p .left) d
+
+-- 02, K5: "A clock step that reaches a retry reports kind 4; one that reaches the maximum reports kind 5", of a query that runs.
+abbrev pub comesDue : Settings → ℕ → Query → Bool
+comesDue s d q = isRunning q && (leb (queryLeft q) d || reaches s (queryLeft q) d)
+
+-- "one report a record"
+abbrev pub reports : Settings → ℕ → Record → Bool
+reports s d p = timesOut d p || comesDue s d (p .query)

@@ -1,29 +1,25 @@
 -- Calls in a row over a host's octets give what the steps give over its records.
 -- Assumes nothing.
-use Prim.Native.Nat.{ℕ, zero, suc, _+_, _*_, _^_, _≤_, _<_}
+use Prim.Native.Nat.{ℕ, zero, suc, _^_, _≤_, _<_}
 use mathlib.Core.Path.{_≡_, refl, ap, sym, _∙_}
-use mathlib.Core.Bool.{Bool, true, false, not, _&&_}
+use mathlib.Core.Bool.{Bool, true, false, not}
 use mathlib.Core.List.{List, [], _∷_, _++_}
 use native.Mathlib.Omega.{arith}
-use lib.Dec.{leb, ltb}
-use lib.ListN.{length, length-append, replicate}
-use borrow.Author.Tests.{eq-eqb, ltb-false, ltb-true}
+use lib.Dec.{ltb}
+use lib.ListN.{length, replicate}
+use borrow.Author.Tests.{ltb-false, ltb-true}
 use Rattle.octets.proofs.Branch.{by-bool}
-use Rattle.octets.proofs.RowTrip.{Octets, row-back}
+use Rattle.octets.proofs.RowTrip.{Octets}
 use Rattle.octets.specs.Frame.{longest}
 use Rattle.octets.specs.Pick.{pick}
 use Rattle.octets.specs.Field.{allOctets, field, octets}
 use Rattle.octets.proofs.AnswerTrip.{answer-back}
-use Rattle.octets.specs.Row.{rowAt, rowOctets}
+use Rattle.octets.specs.Row.{rowAt}
 use Rattle.peer.proofs.Fits.{both}
-use Rattle.peer.specs.Record.{exchangeNumber}
-use Rattle.peer.specs.declared.record.Exchange.{Exchange}
-use Rattle.peer.specs.declared.record.Exchange.the-variants.{None, Asked, Awaiting, Sent}
-use Rattle.octets.specs.declared.heard.Kind.the-variants.{Association, Authentication, Reassociation}
 use Rattle.peer.specs.declared.record.Record.{Record}
 use Rattle.peer.specs.declared.settings.Settings.{Settings}
 use Rattle.table.specs.Answer.{refusalAnswer}
-use Rattle.table.specs.Boundary.{answerIn, crossedOf, editionIn, settingsIn, settingsLength}
+use Rattle.table.specs.Boundary.{answerIn, crossedOf, editionIn, maximumIn, retryIn, settingsIn, settingsLength}
 use Rattle.table.specs.Calls.{Call, Told, called, stepped, framed, InRow, CallsInRow, LeavesTable, CallSaid}
 use Rattle.table.specs.Exactly.{refusalsOf}
 use Rattle.table.specs.Fit.{wellFormed}
@@ -33,11 +29,11 @@ use Rattle.table.specs.Marked.{asAp, authenticationRequest, them, us}
 use Rattle.table.specs.Order.{end, answers}
 use Rattle.table.specs.Places.{allTails, allOf}
 use Rattle.table.specs.Refusals.{firstOf}
-use Rattle.table.specs.Rows.{isTable, numberedAt, octetsOf, recordsOf, rowOf}
+use Rattle.table.specs.Rows.{isTable, numberedAt, octetsOf, queryNumbered, recordsOf, rowNumbered}
 use Rattle.table.specs.Step.{stepOf}
 use Rattle.table.specs.Written.{mostOf}
-use Rattle.table.proofs.Octets.RecordTrip.{Fitting, fitting-of-well, row-behind, well-trip}
-use Rattle.table.proofs.Octets.RowLaws.{length-records, length-row, octets-of-records}
+use Rattle.table.proofs.Octets.RecordTrip.{octets-table, fitting-of-well, well-trip}
+use Rattle.table.proofs.Octets.RowLaws.{length-records, octets-of-records}
 use Rattle.table.specs.declared.rules.event.Event.{Event}
 use Rattle.table.specs.declared.rules.event.Event.the-variants as event
 use Rattle.table.proofs.Theorems.RefusedExactly.{refusal-first}
@@ -45,45 +41,6 @@ use Rattle.table.proofs.Theorems.RefusedKeeps.{refused-keeps}
 use Rattle.table.proofs.Theorems.SaidBack.{step-said}
 use Rattle.table.proofs.Theorems.WrittenCount.{written-count}
 use Rattle.table.proofs.Theorems.StepKeeps.{step-keeps}
-
--- ---- the octets of a table are a table
-
-number-low : (e : Exchange) → leb (exchangeNumber e) 9 ≡ true
-number-low None = refl
-number-low (Asked Authentication) = refl
-number-low (Asked Association) = refl
-number-low (Asked Reassociation) = refl
-number-low (Awaiting Authentication) = refl
-number-low (Awaiting Association) = refl
-number-low (Awaiting Reassociation) = refl
-number-low (Sent Authentication) = refl
-number-low (Sent Association) = refl
-number-low (Sent Reassociation) = refl
-
-length-octets : (t : List Record) → length (octetsOf t) ≡ 16 * length t
-unfolding octetsOf
-length-octets [] = refl
-length-octets (p ∷ t) = rw (length-append, length-row (rowOf p), length-octets t) (omega arith)
-
-numbered-behind : (row zs : List ℕ) → length row ≡ 16 → (m k : ℕ) → numberedAt m (16 + k) (row ++ zs) ≡ numberedAt m k zs
-unfolding numberedAt
-numbered-behind row zs n zero k = refl
-numbered-behind row zs n (suc m) k =
-    let e : 16 + k + 16 ≡ 16 + (k + 16) = omega arith in
-    rw (row-behind row zs n k, e, numbered-behind row zs n m (k + 16))
-
-numbered-back : (t : List Record) → Fitting t → numberedAt (length t) 0 (octetsOf t) ≡ true
-unfolding numberedAt octetsOf rowOf
-numbered-back [] f = refl
-numbered-back (p ∷ t) f =
-    rw (row-back (rowOf p) (octetsOf t) (f .0), number-low (p .exchange), numbered-behind (rowOctets (rowOf p)) (octetsOf t) (length-row (rowOf p)) (length t) 0) (numbered-back t (f .1))
-
-octets-table : (t : List Record) → length t ≡ 32 → Fitting t → isTable (octetsOf t) ≡ true
-unfolding isTable
-octets-table t l f =
-    let n : length (octetsOf t) ≡ 512 = omega (arith, length-octets t) in
-    let m : numberedAt 32 0 (octetsOf t) ≡ true = ap (λ k. numberedAt k 0 (octetsOf t)) (sym l) ∙ numbered-back t f in
-    rw (eq-eqb (length (octetsOf t)) 512 n, m)
 
 -- ---- one call
 
@@ -229,14 +186,14 @@ call-said ss xs c k z w =
 
 -- What the theorems ask for is met: the table that a host starts with, and the frame and the primitive of a first authentication.
 empty : List ℕ
-empty = replicate 512 0
+empty = replicate 768 0
 
 -- an access point in octets: role 1, address 02:00:00:00:00:01, no RSNA, timeouts of 100 TU
 access-point : List ℕ
 access-point = 1 ∷ octets 6 us ++ 0 ∷ octets 2 100 ++ octets 2 100
 
 example-settings : settingsIn access-point ≡ asAp
-unfolding settingsIn settingsLength editionIn octets access-point
+unfolding settingsIn settingsLength editionIn retryIn maximumIn octets access-point
 example-settings = refl
 
 example-calls : List Call
@@ -246,5 +203,5 @@ example-calls =
     ∷ []
 
 example-row : InRow access-point empty example-calls
-unfolding isTable numberedAt rowAt allTails empty example-calls
+unfolding isTable numberedAt rowNumbered queryNumbered rowAt allTails empty example-calls
 example-row = calls-in-a-row access-point empty example-calls refl refl refl

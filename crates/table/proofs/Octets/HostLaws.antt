@@ -72,11 +72,11 @@ module _ (xs : List ℕ) (s : Settings) (e : Event) (fs l : List ℕ) where
         first (event.Clock d) r = rw (lt-ltb _ _ r)
 
     -- settings or a table that are not well formed
-    pub ill-formed : length xs ≡ 512 → roomOf e ≤ length l → (numberedAt 32 0 xs && wellFormed s t) ≡ false → Gives (refusalAnswer 2) xs l
+    pub ill-formed : length xs ≡ 768 → roomOf e ≤ length l → (numberedAt 32 0 xs && wellFormed s t) ≡ false → Gives (refusalAnswer 2) xs l
     unfolding isTable firstOf
     ill-formed n r w = by-bool (numberedAt 32 0 xs)
-        (λ m. refuses (rw (eq-eqb (length xs) 512 n, m)) 2 (second e r (rw m at w)) (λ z. omega (arith, z)))
-        (λ m. no-table (rw (eq-eqb (length xs) 512 n, m)) r)
+        (λ m. refuses (rw (eq-eqb (length xs) 768 n, m)) 2 (second e r (rw m at w)) (λ z. omega (arith, z)))
+        (λ m. no-table (rw (eq-eqb (length xs) 768 n, m)) r)
       where
         second : (e : Event) → roomOf e ≤ length l → wellFormed s t ≡ false → firstOf (refusalsOf s t e fs (length l)) ≡ 2
         second event.Frame r w = rw (le-ltb _ _ r, w)
@@ -102,9 +102,9 @@ unfolding noPlace
 vacant-refusal s p o Nothing f q a c = refl
 vacant-refusal s p o (At i) f q a c = refl
 
-pub rows-table : (s : Settings) (xs : List ℕ) → length xs ≡ 512 → (numberedAt 32 0 xs && wellFormed s (recordsOf xs)) ≡ true → isTable xs ≡ true
+pub rows-table : (s : Settings) (xs : List ℕ) → length xs ≡ 768 → (numberedAt 32 0 xs && wellFormed s (recordsOf xs)) ≡ true → isTable xs ≡ true
 unfolding isTable
-rows-table s xs n w = rw (eq-eqb (length xs) 512 n, and-left (numberedAt 32 0 xs) (wellFormed s (recordsOf xs)) w)
+rows-table s xs n w = rw (eq-eqb (length xs) 768 n, and-left (numberedAt 32 0 xs) (wellFormed s (recordsOf xs)) w)
 
 -- A clock step over a table that is well formed.
 module _ (xs : List ℕ) (s : Settings) (d : ℕ) (l : List ℕ) (i : isTable xs ≡ true) (w : wellFormed s (recordsOf xs) ≡ true) (r : 256 ≤ length l) where
@@ -118,14 +118,14 @@ module _ (xs : List ℕ) (s : Settings) (d : ℕ) (l : List ℕ) (i : isTable xs
 
 -- A frame and a primitive over records that are well formed, with room: what is left of the definitions.
 module _ (s : Settings) (t : List Record) where
-  pub frame-heard : (fs : List ℕ) (n : ℕ) → 34 ≤ n → wellFormed s t ≡ true → heardAt s t (addressesOf t) (readOf (s .own) fs) ≡ receivedOf s t fs n
+  pub frame-heard : (fs : List ℕ) (n : ℕ) → 37 ≤ n → wellFormed s t ≡ true → heardAt s t (addressesOf t) (readOf (s .own) fs) ≡ receivedOf s t fs n
   unfolding receivedOf
-  frame-heard fs n r w = rw (le-ltb n 34 r, w)
+  frame-heard fs n r w = rw (le-ltb n 37 r, w)
 
-  pub primitive-asked : (q a c n : ℕ) → 34 ≤ n → wellFormed s t ≡ true → askedAt s t (addressesOf t) q a c ≡ askedOf s t q a c n
+  pub primitive-asked : (q a c n : ℕ) → 37 ≤ n → wellFormed s t ≡ true → askedAt s t (addressesOf t) q a c ≡ askedOf s t q a c n
   unfolding askedOf unless firstOf
-  primitive-asked q a c n r w = rw (le-ltb n 34 r, w)
+  primitive-asked q a c n r w = rw (le-ltb n 37 r, w)
 
-pub not-long : (xs : List ℕ) → (length xs ≡ 512 → ⊥) → isTable xs ≡ false
+pub not-long : (xs : List ℕ) → (length xs ≡ 768 → ⊥) → isTable xs ≡ false
 unfolding isTable
-not-long xs h = rw (ne-eqb (length xs) 512 h)
+not-long xs h = rw (ne-eqb (length xs) 768 h)

@@ -12,18 +12,21 @@ use lib.Dec.{leb, eqb}
 use lib.ListN.{length, getD, take, drop, length-map, List·getD-map}
 use lib.Seq.{take-add, drop-drop, take-all}
 use Rattle.octets.specs.Field.{octets}
-use Rattle.octets.specs.Row.{blankAt, rowAt, rowOctets}
+use Rattle.octets.specs.Row.{blankAt, queryOctets, rowAt, rowOctets}
 use Rattle.octets.specs.declared.row.Row.{Row}
 use Rattle.octets.proofs.Branch.{and-left, and-right}
 use Rattle.octets.proofs.RowTrip.{Octets, blank-row, octets-back}
+use Rattle.peer.proofs.Fits.{both}
+use Rattle.peer.proofs.QueryFits.{query-back}
+use Rattle.peer.specs.Query.{queryOf}
 use Rattle.peer.specs.Record.{exchangeNumber, exchangeOf, freeOf}
 use Rattle.peer.specs.declared.record.Record.{Record}
 use Rattle.peer.specs.declared.record.Exchange.{Exchange}
 use Rattle.peer.specs.declared.record.Exchange.the-variants.{None, Asked, Awaiting, Sent}
 use Rattle.octets.specs.declared.heard.Kind.the-variants.{Authentication, Association, Reassociation}
 use Rattle.table.specs.Places.{addressesOf}
-use Rattle.table.proofs.Octets.Standings.{by-number}
-use Rattle.table.specs.Rows.{recordOf, rowOf, recordsAt, numberedAt, recordsOf, octetsOf, isTable}
+use Rattle.table.proofs.Octets.Standings.{by-number, numbers-kept}
+use Rattle.table.specs.Rows.{queryNumbered, recordOf, rowOf, rowNumbered, recordsAt, numberedAt, recordsOf, octetsOf, isTable}
 
 -- An exchange's number gives it back, and a number from 0 to 9 is its exchange's.
 exchange-back : (e : Exchange) → exchangeOf (exchangeNumber e) ≡ e
@@ -48,37 +51,40 @@ number-back =
 
 pub record-back : (p : Record) → recordOf (rowOf p) ≡ p
 unfolding recordOf rowOf
-record-back p = rw (exchange-back (p .exchange))
+record-back p = rw (exchange-back (p .exchange), query-back (p .query))
 
-pub row-of-record : (r : Row) → leb (r .exchange) 9 ≡ true → rowOf (recordOf r) ≡ r
-unfolding recordOf rowOf
-row-of-record r h = rw (number-back (r .exchange) (leb-true (r .exchange) 9 h))
+pub row-of-record : (r : Row) → rowNumbered r ≡ true → rowOf (recordOf r) ≡ r
+unfolding recordOf rowOf rowNumbered
+row-of-record r h =
+    let e = both (queryNumbered (r .query) (r .remaining)) _ h in
+    let q = numbers-kept (r .query) (r .remaining) (e .0) in
+    rw (number-back (r .exchange) (leb-true (r .exchange) 9 (e .1)), q .0, q .1)
 
-pub length-row : (r : Row) → length (rowOctets r) ≡ 16
-unfolding rowOctets octets
+pub length-row : (r : Row) → length (rowOctets r) ≡ 24
+unfolding rowOctets queryOctets octets
 length-row r = refl
 
 pub length-records : (n k : ℕ) (xs : List ℕ) → length (recordsAt n k xs) ≡ n
 unfolding recordsAt
 length-records zero k xs = refl
-length-records (suc n) k xs = ap suc (length-records n (k + 16) xs)
+length-records (suc n) k xs = ap suc (length-records n (k + 24) xs)
 
 -- The record at a place.
-pub record-at : (n i k : ℕ) (xs : List ℕ) → i < n → getD (recordsAt n k xs) i freeOf ≡ recordOf (rowAt (k + 16 * i) xs)
+pub record-at : (n i k : ℕ) (xs : List ℕ) → i < n → getD (recordsAt n k xs) i freeOf ≡ recordOf (rowAt (k + 24 * i) xs)
 unfolding recordsAt
 record-at zero i k xs h = absurd (omega arith)
 record-at (suc n) zero k xs h = rw add-zero
 record-at (suc n) (suc i) k xs h =
-    let e : k + 16 + 16 * i ≡ k + 16 * suc i = omega arith in
-    record-at n i (k + 16) xs (omega arith) ∙ rw e
+    let e : k + 24 + 24 * i ≡ k + 24 * suc i = omega arith in
+    record-at n i (k + 24) xs (omega arith) ∙ rw e
 
 past-the-end : (n i k : ℕ) (xs : List ℕ) → n ≤ i → getD (recordsAt n k xs) i freeOf ≡ freeOf
 unfolding recordsAt
 past-the-end zero i k xs h = refl
 past-the-end (suc n) zero k xs h = absurd (omega arith)
-past-the-end (suc n) (suc i) k xs h = past-the-end n i (k + 16) xs (omega arith)
+past-the-end (suc n) (suc i) k xs h = past-the-end n i (k + 24) xs (omega arith)
 
-pub at-place : (i : ℕ) (xs : List ℕ) → i < 32 → recordOf (rowAt (16 * i) xs) ≡ getD (recordsOf xs) i freeOf
+pub at-place : (i : ℕ) (xs : List ℕ) → i < 32 → recordOf (rowAt (24 * i) xs) ≡ getD (recordsOf xs) i freeOf
 at-place i xs h = sym (record-at 32 i 0 xs h ∙ rw zero-add)
 
 pub no-place : (i : ℕ) (xs : List ℕ) → 32 ≤ i → freeOf ≡ getD (recordsOf xs) i freeOf
@@ -88,55 +94,56 @@ no-place i xs h = sym (past-the-end 32 i 0 xs h)
 pub length-addresses : (xs : List ℕ) → length (addressesOf (recordsOf xs)) ≡ 32
 length-addresses xs = length-map (recordsOf xs) (λ p. p .address) ∙ length-records 32 0 xs
 
-pub address-at : (i : ℕ) (xs : List ℕ) → i < 32 → rowAt (16 * i) xs .address ≡ getD (addressesOf (recordsOf xs)) i 0
+pub address-at : (i : ℕ) (xs : List ℕ) → i < 32 → rowAt (24 * i) xs .address ≡ getD (addressesOf (recordsOf xs)) i 0
 unfolding recordOf
 address-at i xs h = ap (λ p. p .address) (at-place i xs h) ∙ sym (List·getD-map (λ p. p .address) (recordsOf xs) i freeOf)
 
 -- The numbers from one place on: its own, and those behind it.
-pub numbered-step : (i : ℕ) (xs : List ℕ) → i < 32 → numberedAt (32 - i) (16 * i) xs ≡ (leb (rowAt (16 * i) xs .exchange) 9 && numberedAt (32 - (i + 1)) (16 * (i + 1)) xs)
+pub numbered-step : (i : ℕ) (xs : List ℕ) → i < 32 → numberedAt (32 - i) (24 * i) xs ≡ (rowNumbered (rowAt (24 * i) xs) && numberedAt (32 - (i + 1)) (24 * (i + 1)) xs)
 unfolding numberedAt
 numbered-step i xs h =
     let m : 32 - i ≡ suc (32 - (i + 1)) = omega arith in
-    let k : 16 * (i + 1) ≡ 16 * i + 16 = omega arith in
+    let k : 24 * (i + 1) ≡ 24 * i + 24 = omega arith in
     rw (m, k)
 
-pub numbered-end : (i : ℕ) (xs : List ℕ) → 32 ≤ i → numberedAt (32 - i) (16 * i) xs ≡ true
+pub numbered-end : (i : ℕ) (xs : List ℕ) → 32 ≤ i → numberedAt (32 - i) (24 * i) xs ≡ true
 unfolding numberedAt
 numbered-end i xs h =
     let m : 32 - i ≡ 0 = omega arith in
     rw m
 
-pub numbered-row : (n i k : ℕ) (xs : List ℕ) → i < n → numberedAt n k xs ≡ true → leb (rowAt (k + 16 * i) xs .exchange) 9 ≡ true
+pub numbered-row : (n i k : ℕ) (xs : List ℕ) → i < n → numberedAt n k xs ≡ true → rowNumbered (rowAt (k + 24 * i) xs) ≡ true
 unfolding numberedAt
 numbered-row zero i k xs h e = absurd (omega arith)
-numbered-row (suc n) zero k xs h e = rw (add-zero) (and-left (leb (rowAt k xs .exchange) 9) (numberedAt n (k + 16) xs) e)
+numbered-row (suc n) zero k xs h e = rw (add-zero) (and-left (rowNumbered (rowAt k xs)) (numberedAt n (k + 24) xs) e)
 numbered-row (suc n) (suc i) k xs h e =
-    let q : k + 16 + 16 * i ≡ k + 16 * suc i = omega arith in
-    rw q at (numbered-row n i (k + 16) xs (omega arith) (and-right (leb (rowAt k xs .exchange) 9) (numberedAt n (k + 16) xs) e))
+    let q : k + 24 + 24 * i ≡ k + 24 * suc i = omega arith in
+    rw q at (numbered-row n i (k + 24) xs (omega arith) (and-right (rowNumbered (rowAt k xs)) (numberedAt n (k + 24) xs) e))
 
 -- A place whose octets are all zero is free, and has a number.
-pub blank-free : (i : ℕ) (xs : List ℕ) → i < 32 → blankAt (16 * i) xs ≡ true → getD (recordsOf xs) i freeOf ≡ freeOf
-unfolding recordOf exchangeOf
-blank-free i xs h e = sym (at-place i xs h) ∙ ap recordOf (blank-row (16 * i) xs e)
+pub blank-free : (i : ℕ) (xs : List ℕ) → i < 32 → blankAt (24 * i) xs ≡ true → getD (recordsOf xs) i freeOf ≡ freeOf
+unfolding recordOf exchangeOf queryOf
+blank-free i xs h e = sym (at-place i xs h) ∙ ap recordOf (blank-row (24 * i) xs e)
 
-pub blank-numbered : (i : ℕ) (xs : List ℕ) → i < 32 → blankAt (16 * i) xs ≡ true → numberedAt (32 - i) (16 * i) xs ≡ numberedAt (32 - (i + 1)) (16 * (i + 1)) xs
-blank-numbered i xs h e = numbered-step i xs h ∙ rw (blank-row (16 * i) xs e)
+pub blank-numbered : (i : ℕ) (xs : List ℕ) → i < 32 → blankAt (24 * i) xs ≡ true → numberedAt (32 - i) (24 * i) xs ≡ numberedAt (32 - (i + 1)) (24 * (i + 1)) xs
+unfolding rowNumbered queryNumbered
+blank-numbered i xs h e = numbered-step i xs h ∙ rw (blank-row (24 * i) xs e)
 
-pub table-long : (xs : List ℕ) → isTable xs ≡ true → length xs ≡ 512
+pub table-long : (xs : List ℕ) → isTable xs ≡ true → length xs ≡ 768
 unfolding isTable
-table-long xs e = eqb-true (length xs) 512 (and-left (eqb (length xs) 512) (numberedAt 32 0 xs) e)
+table-long xs e = eqb-true (length xs) 768 (and-left (eqb (length xs) 768) (numberedAt 32 0 xs) e)
 
 module _ (xs : List ℕ) (h : Octets xs) where
   -- Octets to records and back.
-  pub octets-at : (n k : ℕ) → k + 16 * n ≤ length xs → numberedAt n k xs ≡ true → octetsOf (recordsAt n k xs) ≡ take (16 * n) (drop k xs)
+  pub octets-at : (n k : ℕ) → k + 24 * n ≤ length xs → numberedAt n k xs ≡ true → octetsOf (recordsAt n k xs) ≡ take (24 * n) (drop k xs)
   unfolding recordsAt numberedAt octetsOf
   octets-at zero k r e = refl
   octets-at (suc n) k r e =
-      let m : 16 * suc n ≡ 16 + 16 * n = omega arith in
+      let m : 24 * suc n ≡ 24 + 24 * n = omega arith in
       rw (
-        row-of-record (rowAt k xs) (and-left (leb (rowAt k xs .exchange) 9) (numberedAt n (k + 16) xs) e),
+        row-of-record (rowAt k xs) (and-left (rowNumbered (rowAt k xs)) (numberedAt n (k + 24) xs) e),
         octets-back xs h k (omega arith),
-        octets-at n (k + 16) (omega arith) (and-right (leb (rowAt k xs .exchange) 9) (numberedAt n (k + 16) xs) e),
+        octets-at n (k + 24) (omega arith) (and-right (rowNumbered (rowAt k xs)) (numberedAt n (k + 24) xs) e),
         m,
         take-add,
         drop-drop,
@@ -145,5 +152,5 @@ module _ (xs : List ℕ) (h : Octets xs) where
   pub octets-of-records : isTable xs ≡ true → octetsOf (recordsOf xs) ≡ xs
   unfolding isTable
   octets-of-records e =
-      let l : length xs ≡ 512 = eqb-true (length xs) 512 (and-left (eqb (length xs) 512) (numberedAt 32 0 xs) e) in
-      octets-at 32 0 (omega arith) (and-right (eqb (length xs) 512) (numberedAt 32 0 xs) e) ∙ take-all 512 xs (omega arith)
+      let l : length xs ≡ 768 = eqb-true (length xs) 768 (and-left (eqb (length xs) 768) (numberedAt 32 0 xs) e) in
+      octets-at 32 0 (omega arith) (and-right (eqb (length xs) 768) (numberedAt 32 0 xs) e) ∙ take-all 768 xs (omega arith)

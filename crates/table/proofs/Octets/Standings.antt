@@ -1,4 +1,5 @@
--- A record by its exchange's number: which numbers fit which role, state and time left, and which are (re)associations.
+-- A record by its numbers: which numbers of an exchange fit which role, state and time left, and which are (re)associations; which numbers of a
+-- query stand for one.
 -- Assumes nothing.
 use mathlib.Core.Path.{_≡_, refl, sym, _∙_}
 use mathlib.Core.Bool.{Bool, true, false, not, _&&_, _||_}
@@ -9,13 +10,15 @@ use borrow.Author.Tests.{le-leb, lt-leb, le-ltb, ne-eqb, eqb-false, eqb-true, le
 use Rattle.octets.specs.Address.{validOf}
 use Rattle.octets.specs.Row.{noRow}
 use Rattle.octets.specs.declared.row.Row.{Row}
-use Rattle.octets.proofs.Branch.{and-left, and-right}
-use Rattle.peer.proofs.Fits.{both}
-use Rattle.peer.specs.Fit.{askedFits, awaitingFits, exchangeFits, holdFits, recordFits, sentFits, stands}
+use Rattle.octets.proofs.Branch.{and-left, and-right, by-bool}
+use Rattle.peer.proofs.Fits.{both, clash, fits-of}
+use Rattle.peer.specs.Fit.{askedFits, awaitingFits, exchangeFits, holdFits, queryAllowed, queryFits, recordFits, sentFits, stands}
+use Rattle.peer.proofs.QueryFits.{number-back}
+use Rattle.peer.specs.Query.{queryLeft, queryNumber, queryOf}
 use Rattle.peer.specs.Record.{associates, exchangeOf, isFree, underWay}
 use Rattle.peer.specs.Settings.{ap, settingsFit, station, timeFits}
 use Rattle.peer.specs.declared.settings.Settings.{Settings}
-use Rattle.table.specs.Rows.{recordOf}
+use Rattle.table.specs.Rows.{queryNumbered, recordOf, rowNumbered}
 use Rattle.table.specs.declared.host.standing.Standing.{Standing}
 
 -- Each number from 0 to 9, and all above.
@@ -86,21 +89,53 @@ idle =
     (λ h. refl) (λ h. refl) (λ h. refl) (λ h. refl) (λ h. refl) (λ h. refl) (λ h. refl) (λ h. refl) (λ h. refl) (λ h. refl)
     (λ n m h. absurd (omega arith))
 
+-- Each number of a query, and all above.
+pub by-query : (P : ℕ → Type 0) → P 0 → P 1 → P 2 → P 3 → ((n : ℕ) → 3 < n → P n) → (n : ℕ) → P n
+by-query P a b c d k zero = a
+by-query P a b c d k (suc zero) = b
+by-query P a b c d k (suc (suc zero)) = c
+by-query P a b c d k (suc (suc (suc zero))) = d
+by-query P a b c d k (suc (suc (suc (suc n)))) = k (suc (suc (suc (suc n)))) (omega arith)
+
+or-none : (b : Bool) → (b || false) ≡ true → b ≡ true
+or-none true h = refl
+or-none false h = h
+
+-- Numbers that stand for a query are its own.
+pub numbers-kept : (n left : ℕ) → queryNumbered n left ≡ true → (queryNumber (queryOf n left) ≡ n) × (queryLeft (queryOf n left) ≡ left)
+unfolding queryNumbered
+numbers-kept n left h =
+    let a = both (leb n 3) _ h in
+    number-back n left (leb-true n 3 (a .0)) (λ e1 e2. eqb-true left 0 (or-none (eqb left 0) (rw (e1, e2) at (a .1))))
+
+none-left : (n left : ℕ) → n ≡ 0 → queryLeft (queryOf n left) ≡ 0
+unfolding queryOf
+none-left n left e = rw e
+
 -- A row of a free place is all zero.
-pub free-row : (r : Row) → leb (r .exchange) 9 ≡ true → isFree (recordOf r) ≡ true → r ≡ noRow
-unfolding isFree recordOf
+pub free-row : (r : Row) → rowNumbered r ≡ true → isFree (recordOf r) ≡ true → r ≡ noRow
+unfolding isFree recordOf rowNumbered
 free-row r n h =
+    let q = both (queryNumbered (r .query) (r .remaining)) _ n in
+    let back = numbers-kept (r .query) (r .remaining) (q .0) in
     let a = both (eqb (r .address) 0) _ h in
     let b = both (eqb (r .state) 0) _ (a .1) in
     let c = both (eqb (r .left) 0) _ (b .1) in
     let d = both (eqb (r .hold) 0) _ (c .1) in
-    let e : eqb (r .exchange) 0 ≡ true = sym (idle (r .exchange) (leb-true (r .exchange) 9 n)) ∙ d .1 in
+    let f = both (eqb (r .identifier) 0) _ (d .1) in
+    let g = both (eqb (queryNumber (queryOf (r .query) (r .remaining))) 0) _ (f .1) in
+    let none : r .query ≡ 0 = sym (back .0) ∙ eqb-true _ 0 (g .0) in
+    let over : r .remaining ≡ 0 = sym (back .1) ∙ none-left (r .query) (r .remaining) none in
+    let e : eqb (r .exchange) 0 ≡ true = sym (idle (r .exchange) (leb-true (r .exchange) 9 (q .1))) ∙ g .1 in
     λ i. record {
       address = eqb-true (r .address) 0 (a .0) i;
       hold = eqb-true (r .hold) 0 (d .0) i;
       left = eqb-true (r .left) 0 (c .0) i;
       state = eqb-true (r .state) 0 (b .0) i;
       exchange = eqb-true (r .exchange) 0 e i;
+      identifier = eqb-true (r .identifier) 0 (f .0) i;
+      remaining = over i;
+      query = none i;
     }
 
 -- What does not fit has no standing.
@@ -115,10 +150,30 @@ a-station s h e =
     let high : leb (s .role) 2 ≡ true = and-left (leb (s .role) 2) _ (and-right (not (eqb (s .role) 0)) _ h) in
     omega (arith, eqb-false (s .role) 0 low, leb-true (s .role) 2 high, eqb-false (s .role) ap e)
 
+-- A query that does not stand, where it does not: by its numbers, or by role, state and time.
+pub query-unfit : (s : Settings) (r : Row) → (queryNumbered (r .query) (r .remaining) && queryFits s (r .state) (queryOf (r .query) (r .remaining))) ≡ false → (rowNumbered r && recordFits s (recordOf r)) ≡ false
+unfolding rowNumbered recordOf
+query-unfit s r h = by-bool (rowNumbered r && recordFits s (recordOf r))
+    (λ t.
+    let a = both (rowNumbered r) _ t in
+    clash (rw (both (queryNumbered (r .query) (r .remaining)) _ (a .0) .0) (fits-of s (recordOf r) (a .1) .queries)) h)
+    (λ f. f)
+
+and-true : (b : Bool) → (b && true) ≡ b
+and-true true = refl
+and-true false = refl
+
+query-allowed : (s : Settings) (r : Row) → r .identifier ≤ 65535 → queryFits s (r .state) (queryOf (r .query) (r .remaining)) ≡ true → queryAllowed s (recordOf r) ≡ true
+unfolding queryAllowed recordOf
+query-allowed s r id h = rw (le-leb (r .identifier) 65535 id) h
+
 -- A record that fits but for its exchange has its exchange's standing.
 pub by-exchange : (s : Settings) (r : Row) (x : Standing) (role : ℕ) → s .role ≡ role → leb 1 (r .state) ≡ true → leb (r .state) 4 ≡ true → eqb (r .address) (s .own) ≡ false → validOf (r .address) ≡ true
-    → holdFits role (r .hold) ≡ true
+    → holdFits role (r .hold) ≡ true → r .identifier ≤ 65535
+    → (queryNumbered (r .query) (r .remaining) && queryFits s (r .state) (queryOf (r .query) (r .remaining))) ≡ true
     → (x .fit ≡ (leb (r .exchange) 9 && exchangeFits (exchangeOf (r .exchange)) role (r .state) (r .left))) × (x .fit ≡ true → x .associating ≡ leb 2 (underWay (exchangeOf (r .exchange))))
-    → (x .fit ≡ (leb (r .exchange) 9 && recordFits s (recordOf r))) × (x .fit ≡ true → x .associating ≡ associates (recordOf r))
-unfolding recordFits recordOf associates
-by-exchange s r x role e low high own ok hold h = (rw (low, high, own, ok, e, hold) (h .0), h .1)
+    → (x .fit ≡ (rowNumbered r && recordFits s (recordOf r))) × (x .fit ≡ true → x .associating ≡ associates (recordOf r))
+unfolding recordFits recordOf associates rowNumbered
+by-exchange s r x role e low high own ok hold id query h =
+    let q = both (queryNumbered (r .query) (r .remaining)) _ query in
+    (rw (q .0, query-allowed s r id (q .1), low, high, own, ok, e, hold, and-true (exchangeFits (exchangeOf (r .exchange)) role (r .state) (r .left))) (h .0), h .1)

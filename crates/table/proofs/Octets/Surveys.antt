@@ -25,7 +25,7 @@ use Rattle.peer.specs.declared.settings.Settings.{Settings}
 use Rattle.table.specs.Fit.{apart, crowdOf, sparseOf, wellFormed}
 use Rattle.table.specs.Others.{associatedOf}
 use Rattle.table.specs.Places.{addressesOf, allOf}
-use Rattle.table.specs.Rows.{numberedAt, recordOf, recordsOf}
+use Rattle.table.specs.Rows.{rowNumbered, numberedAt, recordOf, recordsOf}
 use Rattle.table.proofs.Passes.Loops.{all-end, all-step, and-false}
 use Rattle.table.proofs.Passes.Marks.{Passed, markOf, passed-all, passed-none, passed-one, passed-zero, same-twice}
 use Rattle.table.proofs.Order.OwnRecord.{all-at, wf-distinct, wf-fits}
@@ -46,13 +46,13 @@ fails false h = refl
 
 -- xs: the octets of the table. What is found in the places from i on.
 pub record Surveyed (s : Settings) (xs : List ℕ) (marks : List Bool) (associated joined associating i : ℕ) : Type 0 where
-  pub long : length xs ≡ 512
+  pub long : length xs ≡ 768
   pub tally : Tallied (recordsOf xs) associated joined associating i
   pub fits : allOf (placeFits s) (drop i (recordsOf xs)) ≡ true
-  pub numbered : numberedAt (32 - i) (16 * i) xs ≡ true
+  pub numbered : numberedAt (32 - i) (24 * i) xs ≡ true
   pub passed : Passed (addressesOf (recordsOf xs)) marks i
 
-surveyed-none : (s : Settings) (xs : List ℕ) → length xs ≡ 512 → (marks : List Bool) → length marks ≡ 256 → (i : ℕ) → i ≡ 32 → Surveyed s xs marks 0 0 0 i
+surveyed-none : (s : Settings) (xs : List ℕ) → length xs ≡ 768 → (marks : List Bool) → length marks ≡ 256 → (i : ℕ) → i ≡ 32 → Surveyed s xs marks 0 0 0 i
 surveyed-none s xs n marks w i e =
     let over : length (recordsOf xs) ≤ i = rw (length-records 32 0 xs) (omega arith) in
     let end : i ≡ length (addressesOf (recordsOf xs)) = e ∙ sym (length-addresses xs) in
@@ -78,11 +78,11 @@ module _ (s : Settings) (xs : List ℕ) (marks : List Bool) (associated joined a
   more-fits p e h = all-step (placeFits s) (recordsOf xs) (i - 1) freeOf inside′ ∙ rw (← e, h, next, v .fits)
 
   -- a free place more
-  pub surveyed-free : blankAt (16 * (i - 1)) xs ≡ true → Surveyed s xs marks associated joined associating (i - 1)
+  pub surveyed-free : blankAt (24 * (i - 1)) xs ≡ true → Surveyed s xs marks associated joined associating (i - 1)
   unfolding placeFits isFree
   surveyed-free b =
       let e : freeOf ≡ getD (recordsOf xs) (i - 1) freeOf = sym (blank-free (i - 1) xs inside b) in
-      let no-address : 0 ≡ getD (addressesOf (recordsOf xs)) (i - 1) 0 = sym (ap (λ r. r .address) (blank-row (16 * (i - 1)) xs b)) ∙ address-at (i - 1) xs inside in
+      let no-address : 0 ≡ getD (addressesOf (recordsOf xs)) (i - 1) 0 = sym (ap (λ r. r .address) (blank-row (24 * (i - 1)) xs b)) ∙ address-at (i - 1) xs inside in
       record {
         long = v .long;
         tally = tallied-free (recordsOf xs) associated joined associating i (v .tally) z e;
@@ -92,24 +92,24 @@ module _ (s : Settings) (xs : List ℕ) (marks : List Bool) (associated joined a
       }
 
   -- a record more: r its row
-  module _ (r : Row) (er : r ≡ rowAt (16 * (i - 1)) xs) where
+  module _ (r : Row) (er : r ≡ rowAt (24 * (i - 1)) xs) where
     here : recordOf r ≡ getD (recordsOf xs) (i - 1) freeOf
     here = ap recordOf er ∙ at-place (i - 1) xs inside
 
     -- one that does not fit, in a place that is not free
-    pub unfit-row : blankAt (16 * (i - 1)) xs ≡ false → (leb (r .exchange) 9 && recordFits s (recordOf r)) ≡ false → false ≡ (numberedAt 32 0 xs && wellFormed s (recordsOf xs))
+    pub unfit-row : blankAt (24 * (i - 1)) xs ≡ false → (rowNumbered r && recordFits s (recordOf r)) ≡ false → false ≡ (numberedAt 32 0 xs && wellFormed s (recordsOf xs))
     unfolding placeFits
     unfit-row b f = fails (numberedAt 32 0 xs && wellFormed s (recordsOf xs)) λ w.
         let all = both (numberedAt 32 0 xs) _ w in
-        let number : leb (r .exchange) 9 ≡ true = rw er (rw zero-add at (numbered-row 32 (i - 1) 0 xs inside (all .0))) in
+        let number : rowNumbered r ≡ true = rw er (rw zero-add at (numbered-row 32 (i - 1) 0 xs inside (all .0))) in
         let place : placeFits s (recordOf r) ≡ true = rw here (all-at (placeFits s) (recordsOf xs) (i - 1) freeOf (wf-fits s (recordsOf xs) (all .1)) inside′) in
         by-bool (isFree (recordOf r))
-        (λ q. clash (row-blank (16 * (i - 1)) xs (rw (v .long) (omega (arith, inside))) (sym er ∙ free-row r number q)) b)
+        (λ q. clash (row-blank (24 * (i - 1)) xs (rw (v .long) (omega (arith, inside))) (sym er ∙ free-row r number q)) b)
         (λ q. clash (rw q at place) (rw number at f))
 
-    module _ (fit : (leb (r .exchange) 9 && recordFits s (recordOf r)) ≡ true) where
+    module _ (fit : (rowNumbered r && recordFits s (recordOf r)) ≡ true) where
       clauses : Fits s (recordOf r)
-      clauses = fits-of s (recordOf r) (both (leb (r .exchange) 9) _ fit .1)
+      clauses = fits-of s (recordOf r) (both (rowNumbered r) _ fit .1)
 
       at-place′ : r .address ≡ getD (addressesOf (recordsOf xs)) (i - 1) 0
       at-place′ = ap (λ r. r .address) er ∙ address-at (i - 1) xs inside
@@ -132,13 +132,13 @@ module _ (s : Settings) (xs : List ℕ) (marks : List Bool) (associated joined a
             record {
               long = v .long;
               tally = tallied-more (recordsOf xs) associated joined associating i (v .tally) z (recordOf r) here associated′ ea joined′ ej associating′ (rw es at ek);
-              fits = more-fits (recordOf r) here (or-right (isFree (recordOf r)) (recordFits s (recordOf r)) (both (leb (r .exchange) 9) _ fit .1));
-              numbered = numbered-step (i - 1) xs inside ∙ rw (← er, both (leb (r .exchange) 9) _ fit .0, next, v .numbered);
+              fits = more-fits (recordOf r) here (or-right (isFree (recordOf r)) (recordFits s (recordOf r)) (both (rowNumbered r) _ fit .1));
+              numbered = numbered-step (i - 1) xs inside ∙ rw (← er, both (rowNumbered r) _ fit .0, next, v .numbered);
               passed = passed-one (addressesOf (recordsOf xs)) marks i (v .passed) z (r .address) at-place′ not-zero m em e;
             }
 
 -- Where every place from i on is free.
-pub surveyed-from : (s : Settings) (xs : List ℕ) → length xs ≡ 512 → (marks : List Bool) → length marks ≡ 256 → (k i : ℕ) → i + k ≡ 32 → ((j : ℕ) → i ≤ j → j < 32 → blankAt (16 * j) xs ≡ true)
+pub surveyed-from : (s : Settings) (xs : List ℕ) → length xs ≡ 768 → (marks : List Bool) → length marks ≡ 256 → (k i : ℕ) → i + k ≡ 32 → ((j : ℕ) → i ≤ j → j < 32 → blankAt (24 * j) xs ≡ true)
     → Surveyed s xs marks 0 0 0 i
 surveyed-from s xs n marks w zero i e b = surveyed-none s xs n marks w i (omega arith)
 surveyed-from s xs n marks w (suc k) i e b =

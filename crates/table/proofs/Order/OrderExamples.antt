@@ -13,9 +13,10 @@ use Rattle.octets.specs.Element.{brokenOf, isResponse, walk}
 use Rattle.octets.specs.Heard.{authenticationOf, responseOf, heardOf}
 use Rattle.octets.specs.Shape.{leastManagement, isBare, leastOf, shapeOf}
 use Rattle.octets.specs.Frame.{capabilityOf, aidField, headOf, bodyOf, bytesOf, writtenOf, lengthOf}
-use Rattle.peer.specs.Settings.{settingsFit, timeFits}
+use Rattle.peer.specs.Settings.{queryTimesFit, settingsFit, timeFits}
+use Rattle.peer.specs.Query.{queryIn}
 use Rattle.peer.specs.Record.{isJoined, associates, freeOf, freshOf, isFree, changedOf}
-use Rattle.peer.specs.Fit.{stands, askedFits, awaitingFits, sentFits, holdFits, recordFits, placeFits}
+use Rattle.peer.specs.Fit.{stands, askedFits, awaitingFits, sentFits, holdFits, queryAllowed, recordFits, placeFits}
 use Rattle.peer.specs.Moves.{dsOf}
 use Rattle.peer.specs.Reply.{apAddress, sendOf, authenticationTo, deauthenticationTo, disassociationTo, requestTo, responseTo}
 use Rattle.peer.specs.Turn.{turnOf, endedOf, begunOf, repliedOf, stillOf}
@@ -51,9 +52,9 @@ other = 0x0b0000000002
 abbrev otherRequest : List ℕ
 otherRequest = frameOf 0xb0 0 ours (0x02 ∷ 0 ∷ 0 ∷ 0 ∷ 0 ∷ 0x0b ∷ []) ours (0 ∷ 0 ∷ 1 ∷ 0 ∷ 0 ∷ 0 ∷ [])
 
--- each event has a buffer of its own, of 34 octets
+-- each event has a buffer of its own, of 37 octets
 abbrev ev : Coming → Handed
-ev c = record { coming = c; out = replicate 34 9 }
+ev c = record { coming = c; out = replicate 37 9 }
 
 -- a frame too short to be read
 abbrev stray : Handed
@@ -109,8 +110,8 @@ pub record AtWork : Type 0 where
 
 pub at-work : AtWork
 unfolding validOf groupOf octets classOf isPublicAction walk isResponse brokenOf authenticationOf responseOf heardOf leastManagement isBare leastOf shapeOf capabilityOf
-    aidField headOf bodyOf bytesOf writtenOf lengthOf settingsFit timeFits isJoined associates freshOf isFree changedOf stands askedFits awaitingFits
-    sentFits holdFits recordFits placeFits dsOf apAddress sendOf authenticationTo disassociationTo requestTo responseTo turnOf endedOf
+    aidField headOf bodyOf bytesOf writtenOf lengthOf settingsFit queryTimesFit timeFits isJoined associates freshOf isFree changedOf queryIn stands askedFits awaitingFits
+    sentFits holdFits recordFits queryAllowed placeFits dsOf apAddress sendOf authenticationTo disassociationTo requestTo responseTo turnOf endedOf
     begunOf repliedOf stillOf barredOf requestedOf authenticationAtAp answeredMove authenticationAtStation authenticationHeard
     deauthenticationHeard requestHeard rejectedOf responseHeard hearOf codeAllowed roleAllowed joinConflict conflictOf joinedElsewhere
     mismatchOf heldOf startedOf answerOf associateOf awaitedOf respondOf reportedMove reportOf askOf timedOf freedOf tickOf firstFrom

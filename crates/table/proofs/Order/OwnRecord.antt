@@ -8,12 +8,12 @@ use native.Mathlib.Omega.{arith}
 use mathlib.Core.Path.{_≡_, refl, sym, ap, _∙_}
 use mathlib.Core.Bool.{Bool, true, false, not, _&&_, _||_, true≢false}
 use mathlib.Core.List.{List, [], _∷_}
-use lib.Dec.{eqb, ltb, leb}
+use lib.Dec.{eqb, ltb}
 use lib.ListN.{length, getD, length-map, List·getD-map}
 use borrow.Author.Tests.{eqb-true, eqb-false, eq-eqb, not-true}
-use Rattle.octets.proofs.Branch.{and-left, and-right, pick-both}
+use Rattle.octets.proofs.Branch.{and-left, and-right, by-bool, pick-both}
+use Rattle.peer.proofs.Fits.{fits-of}
 use Rattle.octets.specs.Pick.{pick}
-use Rattle.octets.specs.Address.{validOf}
 use Rattle.octets.specs.declared.class.FrameClass.{FrameClass}
 use Rattle.octets.specs.declared.heard.Heard.{Heard}
 use Rattle.octets.specs.declared.heard.Heard.the-variants as heard
@@ -22,13 +22,15 @@ use Rattle.octets.specs.declared.heard.Kind.the-variants as kind
 use Rattle.octets.specs.declared.element.Comeback.{Comeback}
 use Rattle.peer.specs.Settings.{ap as accessPoint, settingsFit}
 use Rattle.peer.specs.Record.{freeOf, sentOf, underWay, isFree, isSent}
-use Rattle.peer.specs.Fit.{exchangeFits, holdFits, placeFits, recordFits, sentFits}
+use Rattle.peer.specs.Fit.{exchangeFits, placeFits, sentFits}
 use Rattle.peer.specs.Turn.{turnOf, repliedOf, stillOf}
 use Rattle.peer.specs.Filter.{passesOf}
 use Rattle.peer.specs.Authentication.{requestedOf, authenticationAtAp, authenticationAtStation, authenticationHeard}
 use Rattle.peer.specs.Farewell.{deauthenticationHeard, disassociationHeard}
 use Rattle.peer.specs.Association.{requestHeard, responseHeard}
-use Rattle.peer.specs.Hear.{isExchange, actOf, groupHeard, hearOf}
+use Rattle.peer.specs.Challenge.{challengedOf, inquiredOf, isChallenged, queryRequestHeard, queryResponseHeard}
+use Rattle.peer.specs.Query.{isRunning, queryNumber}
+use Rattle.peer.specs.Hear.{isExchange, isQuery, actOf, groupHeard, hearOf}
 use Rattle.peer.specs.Ask.{startedOf, answerOf, deauthenticateOf, failedOf, associateOf, reassociateOf, disassociateOf, awaitedOf, declinedOf, respondOf, secureOf, reportOf, askOf}
 use Rattle.peer.specs.declared.settings.Settings.{Settings}
 use Rattle.peer.specs.declared.record.Record.{Record}
@@ -101,33 +103,16 @@ sent-free (Sent k) h = h
 
 module _ (s : Settings) (p : Record) (r : s .role ≡ accessPoint) (w : placeFits s p ≡ true) where
   none-sent : sentOf (p .exchange) ≡ 0
-  unfolding placeFits isFree recordFits
-  none-sent = go (isFree p) refl w
-    where
-      idle : Bool
-      idle = eqb (underWay (p .exchange)) 0
-
-      fits : Bool
-      fits = exchangeFits (p .exchange) (s .role) (p .state) (p .left)
-
-      holds : Bool
-      holds = holdFits (s .role) (p .hold)
-
-      go : (b : Bool) → isFree p ≡ b → (b || recordFits s p) ≡ true → sentOf (p .exchange) ≡ 0
-      go true f g =
-          sent-free (p .exchange)
-          (eqb-true (underWay (p .exchange)) 0
-          (and-right (eqb (p .hold) 0) idle
-          (and-right (eqb (p .left) 0) (eqb (p .hold) 0 && idle)
-          (and-right (eqb (p .state) 0) (eqb (p .left) 0 && (eqb (p .hold) 0 && idle))
-          (and-right (eqb (p .address) 0) (eqb (p .state) 0 && (eqb (p .left) 0 && (eqb (p .hold) 0 && idle))) f)))))
-      go false f g =
-          sent-fits (p .exchange) (s .role) (p .state) (p .left) r
-          (and-right holds fits
-          (and-right (validOf (p .address)) (holds && fits)
-          (and-right (not (eqb (p .address) (s .own))) (validOf (p .address) && (holds && fits))
-          (and-right (leb (p .state) 4) (not (eqb (p .address) (s .own)) && (validOf (p .address) && (holds && fits)))
-          (and-right (leb 1 (p .state)) (leb (p .state) 4 && (not (eqb (p .address) (s .own)) && (validOf (p .address) && (holds && fits)))) g)))))
+  unfolding placeFits isFree
+  none-sent = by-bool (isFree p)
+      (λ f.
+      sent-free (p .exchange)
+      (eqb-true (underWay (p .exchange)) 0
+      (and-right (eqb (queryNumber (p .query)) 0) _
+      (and-right (eqb (p .identifier) 0) _
+      (and-right (eqb (p .hold) 0) _
+      (and-right (eqb (p .left) 0) _ (and-right (eqb (p .state) 0) _ (and-right (eqb (p .address) 0) _ f))))))))
+      (λ f. sent-fits (p .exchange) (s .role) (p .state) (p .left) r (fits-of s p (rw f at w) .suits))
 
   response-alone : (k : Kind) (status aid : ℕ) (c : Comeback) → Alone (responseHeard s p k status aid c)
   unfolding responseHeard stillOf repliedOf turnOf
@@ -136,7 +121,7 @@ module _ (s : Settings) (p : Record) (r : s .role ≡ accessPoint) (w : placeFit
   response-alone kind.Reassociation status aid c = rw none-sent
 
   act-alone : (h : Heard) → Alone (actOf s p h)
-  unfolding stillOf repliedOf turnOf authenticationHeard authenticationAtAp authenticationAtStation requestedOf deauthenticationHeard disassociationHeard requestHeard
+  unfolding stillOf repliedOf turnOf authenticationHeard authenticationAtAp authenticationAtStation requestedOf deauthenticationHeard disassociationHeard requestHeard challengedOf queryRequestHeard queryResponseHeard
   act-alone heard.Other = refl
   act-alone (heard.Authentication algorithm transaction status) =
       pick-both Alone (eqb (s .role) accessPoint)
@@ -144,17 +129,20 @@ module _ (s : Settings) (p : Record) (r : s .role ≡ accessPoint) (w : placeFit
       (pick-both Alone (eqb algorithm 0 && (eqb transaction 2 && isSent kind.Authentication (p .exchange))) refl refl)
   act-alone (heard.Deauthentication reason) = pick-both Alone (ltb (p .state) 2) refl refl
   act-alone (heard.Disassociation reason) = pick-both Alone (ltb (p .state) 3) refl refl
-  act-alone (heard.Request k current) = pick-both Alone (eqb (s .role) accessPoint) refl refl
+  act-alone (heard.Request k current) = pick-both Alone (eqb (s .role) accessPoint) (pick-both Alone (isChallenged s p) refl refl) refl
   act-alone (heard.Response k status aid c) = response-alone k status aid c
+  act-alone (heard.QueryRequest identifier) = pick-both Alone (eqb (p .state) 4) refl refl
+  act-alone (heard.QueryResponse identifier) =
+      pick-both Alone (eqb (p .state) 4 && (isRunning (p .query) && eqb identifier (p .identifier))) refl refl
 
   pub hear-alone : (k : FrameClass) (group : Bool) (h : Heard) → Alone (hearOf s p k group h)
   unfolding hearOf groupHeard stillOf repliedOf turnOf
   hear-alone k group h =
       pick-both Alone (not (passesOf k (p .state))) refl
-      (pick-both Alone group (pick-both Alone (isExchange h) refl (act-alone h)) (act-alone h))
+      (pick-both Alone group (pick-both Alone (isExchange h) refl (pick-both Alone (isQuery h) refl (act-alone h))) (act-alone h))
 
 pub ask-alone : (s : Settings) (aid : ℕ) (p : Record) (o : Others) (q c : ℕ) → Alone (askOf s aid p o q c)
-unfolding askOf startedOf answerOf deauthenticateOf associateOf reassociateOf failedOf disassociateOf respondOf awaitedOf declinedOf secureOf reportOf turnOf
+unfolding askOf startedOf answerOf deauthenticateOf associateOf reassociateOf failedOf disassociateOf respondOf awaitedOf declinedOf secureOf reportOf inquiredOf turnOf
 ask-alone s aid p o q c =
     pick-both Alone (eqb q 1) refl
     (pick-both Alone (eqb q 2) refl
@@ -164,4 +152,5 @@ ask-alone s aid p o q c =
     (pick-both Alone (eqb q 6) (pick-both Alone (ltb (p .state) 3) refl refl)
     (pick-both Alone (eqb q 7) (pick-both Alone (eqb c 0) refl refl)
     (pick-both Alone (eqb q 8) (pick-both Alone (eqb c 0) refl refl)
-    (pick-both Alone (eqb q 9) refl refl))))))))
+    (pick-both Alone (eqb q 9) refl
+    (pick-both Alone (eqb q 10) refl refl)))))))))

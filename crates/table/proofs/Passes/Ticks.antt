@@ -13,8 +13,9 @@ use Rattle.octets.specs.Pick.{pick}
 use Rattle.octets.specs.Field.{octets}
 use Rattle.octets.specs.Report.{reportBytes}
 use Rattle.octets.proofs.Stores.{sets-append}
-use Rattle.peer.specs.Record.{changedOf, freeOf}
-use Rattle.peer.specs.Tick.{freedOf, tickOf, timedOf}
+use Rattle.peer.specs.Query.{queryIn}
+use Rattle.peer.specs.Record.{changedOf, freeOf, queriedOf}
+use Rattle.peer.specs.Tick.{freedOf, queriedTimed, reportedOf, tickOf, timedOf}
 use Rattle.peer.specs.declared.settings.Settings.{Settings}
 use Rattle.peer.specs.declared.record.Record.{Record}
 use Rattle.table.specs.Pass.{reportFor, reportsOf, afterOf}
@@ -38,7 +39,7 @@ reported s d t i = reportFor i (tickOf s (getD t i freeOf) d .report) (getD t i 
 
 -- A free place stays free, and nothing is told of it.
 pub tick-free : (s : Settings) (d : ℕ) → (afterOf s d freeOf ≡ freeOf) × (tickOf s freeOf d .report ≡ 0)
-unfolding tickOf timedOf freedOf changedOf
+unfolding tickOf timedOf freedOf changedOf queryIn queriedTimed queriedOf reportedOf
 tick-free s d =
     let z : 0 - d ≡ 0 = omega arith in
     (rw z, refl)

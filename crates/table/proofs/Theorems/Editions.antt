@@ -1,147 +1,44 @@
--- 02, K2: "What both editions share is proved once over the edition." Of the whole table: the edition and the flag are looked at for a rejection
--- of ours and for nothing else, so at a station for nothing at all; and what a rejection leaves as it was in edition 2.
---     steps-alike, written-alike         every event but a rejection of ours: the same table, answer and octets in any edition
---     station-alike                      at a station every event
---     states-kept, joined-kept, no-word  a rejection in edition 2: with protection no state is lowered, without it none below 3; no word is sent
+-- 02, K2, "Two rules for a rejected association", of the whole table: what a rejection of ours leaves as it was in edition 2. That the edition is
+-- asked for nothing else is in EditionsAlike.
+--     states-kept, joined-kept, no-word  with protection no state is lowered, without it none below 3; no word is sent
 -- Assumes nothing.
-use Prim.Native.Nat.{ℕ, _+_}
+use Prim.Native.Nat.{ℕ}
 use mathlib.Core.Path.{_≡_, refl}
-use mathlib.Core.Bool.{Bool, true, false}
+use mathlib.Core.Bool.{true, false}
 use mathlib.Core.List.{List, [], _∷_, map}
 use lib.Dec.{eqb}
-use lib.ListN.{getD, length}
+use lib.ListN.{getD}
 use lib.Seq.{set-getD}
-use borrow.Author.Tests.{eqb-true}
 use Rattle.octets.specs.Address.{validOf}
-use Rattle.octets.proofs.Branch.{by-bool, pick-both}
+use Rattle.octets.proofs.Branch.{pick-both}
 use Rattle.octets.specs.declared.heard.Kind.the-variants.{Reassociation}
 use Rattle.peer.specs.Ask.{askOf, declinedMove, declinedOf, respondOf}
-use Rattle.peer.specs.Fit.{askedFits, holdFits, placeFits, recordFits, stands}
+use Rattle.peer.specs.Fit.{askedFits, holdFits, placeFits, queryAllowed, recordFits, stands}
 use Rattle.peer.specs.Moves.{dsNone}
 use Rattle.peer.specs.Record.{changedOf, freeOf, freshOf, isFree, isJoined}
 use Rattle.peer.specs.Refuse.{codeAllowed, conflictOf, heldOf, mismatchOf, one, roleAllowed}
-use Rattle.peer.specs.Settings.{settingsFit, station, timeFits}
-use Rattle.peer.specs.Tick.{tickOf, timedOf}
+use Rattle.peer.specs.Settings.{queryTimesFit, settingsFit, timeFits}
 use Rattle.peer.specs.Turn.{endedOf, turnOf}
-use Rattle.peer.proofs.Editions.{asks-alike, declines, full-alike, hears-alike, inEdition, rejects, second-joined, second-protected, second-silent, ticks-alike}
-use Rattle.peer.proofs.Fits.{both}
+use Rattle.peer.proofs.Editions.{declines, rejects, second-joined, second-protected, second-silent}
 use Rattle.peer.specs.declared.settings.Settings.{Settings}
 use Rattle.peer.specs.declared.record.Exchange.the-variants.{Asked}
+use Rattle.peer.specs.declared.query.Query.the-variants as query
 use Rattle.peer.specs.declared.record.Record.{Record}
 use Rattle.peer.specs.declared.refuse.Others.{Others}
 use Rattle.peer.specs.declared.turn.Turn.{Turn}
 use Rattle.table.specs.Answer.{refusedOf, settledOf, steppedOf}
 use Rattle.table.specs.Fit.{aloneIn, sparseOf, wellFormed}
 use Rattle.table.specs.Others.{othersOf}
-use Rattle.table.specs.Places.{addressesOf, allOf, allTails, findOf, firstFrom}
-use Rattle.table.specs.Read.{readOf}
-use Rattle.table.specs.Receive.{heardAt, heardFrom, receivedOf}
+use Rattle.table.specs.Places.{addressesOf, allTails, findOf, firstFrom}
 use Rattle.table.specs.Ask.{askedAt, askedOf, mayAsk, noPlace}
-use Rattle.table.specs.Pass.{afterOf, clockedOf, passedIn, passedOf, reportsOf}
 use Rattle.table.specs.Refusals.{firstOf, unless}
 use Rattle.table.specs.Seat.{aidOf, newcomerOf, peerOf, seatedOf, startsOf, strangerOf, turnIn}
-use Rattle.table.specs.Step.{stepIn, stepOf}
+use Rattle.table.specs.Step.{stepOf}
 use Rattle.table.specs.declared.rules.answer.Met.{Met}
-use Rattle.table.specs.declared.rules.event.Event.{Event}
 use Rattle.table.specs.declared.rules.event.Event.the-variants as event
-use Rattle.table.specs.declared.rules.read.Reading.{Reading}
 use Rattle.table.specs.declared.rules.seat.Found.the-variants.{At, Nothing}
 use Rattle.table.specs.declared.rules.seat.Found.{Found}
-use Rattle.table.specs.declared.rules.read.Reading.the-variants.{Refused, Discarded, Admitted, From}
 use Rattle.table.proofs.Passes.Lists.{get-map, map-set}
-
--- "when an AP answers anything but success": the event of primitive 7 or 8 with a status other than 0
-abbrev pub rejection : Event → Bool
-rejection event.Frame = false
-rejection (event.Ask q a c) = rejects q c
-rejection (event.Clock d) = false
-
--- "primitive not for this role", 5, and the first that applies
-not-for-stations : (q c : ℕ) → rejects q c ≡ true → roleAllowed q station ≡ false
-unfolding roleAllowed
-not-for-stations q c r =
-    by-bool (eqb q 7) (λ e. rw (eqb-true q 7 e)) (λ e. rw (eqb-true q 8 (rw e at (both (one q 7 8) _ r .0))))
-
-barred :
-    (m : Bool) (rest others : List (ℕ × Bool)) (t : List Record) (x y : Met)
-    → unless (firstOf ((3, m) ∷ (5, true) ∷ rest)) t x ≡ unless (firstOf ((3, m) ∷ (5, true) ∷ others)) t y
-unfolding unless firstOf
-barred true rest others t x y = refl
-barred false rest others t x y = refl
-
-module _ (s : Settings) (edition protection : ℕ) (fit : settingsFit (inEdition s edition protection) ≡ settingsFit s) where
-  abbrev other : Settings
-  other = inEdition s edition protection
-
-  places-alike : (t : List Record) → allOf (placeFits other) t ≡ allOf (placeFits s) t
-  unfolding inEdition placeFits recordFits
-  places-alike t = refl
-
-  well-alike : (t : List Record) → wellFormed other t ≡ wellFormed s t
-  unfolding inEdition wellFormed sparseOf
-  well-alike t = rw (fit, places-alike t)
-
-  read-alike : (t : List Record) (r : Reading) → heardAt other t (addressesOf t) r ≡ heardAt s t (addressesOf t) r
-  unfolding heardFrom
-  read-alike t (Refused n) = refl
-  read-alike t Discarded = refl
-  read-alike t Admitted = refl
-  read-alike t (From peer group k h) =
-      let p = peerOf t (findOf (addressesOf t) peer) peer in
-      rw (hears-alike s edition protection p k group h, full-alike s edition protection p)
-
-  received-alike : (t : List Record) (xs : List ℕ) (n : ℕ) → receivedOf other t xs n ≡ receivedOf s t xs n
-  unfolding inEdition receivedOf
-  received-alike t xs n = rw (well-alike t, read-alike t (readOf (s .own) xs))
-
-  reports-alike : (d n : ℕ) (t : List Record) → reportsOf other d n t ≡ reportsOf s d n t
-  unfolding reportsOf
-  reports-alike d n [] = refl
-  reports-alike d n (p ∷ ps) = rw (ticks-alike s edition protection p d, reports-alike d (n + 1) ps)
-
-  clocked-alike : (d : ℕ) (t : List Record) → map (afterOf other d) t ≡ map (afterOf s d) t
-  unfolding inEdition tickOf timedOf endedOf
-  clocked-alike d t = refl
-
-  passed-alike : (t : List Record) (d n : ℕ) → passedOf other t d n ≡ passedOf s t d n
-  unfolding passedOf clockedOf
-  passed-alike t d n = rw (well-alike t, clocked-alike d t, reports-alike d 0 t)
-
-  asked-alike : (t : List Record) (q a c n : ℕ) → rejects q c ≡ false → askedOf other t q a c n ≡ askedOf s t q a c n
-  unfolding inEdition askedOf askedAt othersOf mayAsk
-  asked-alike t q a c n r =
-      let at = findOf (addressesOf t) a in
-      rw (well-alike t, asks-alike s edition protection (peerOf t at a) (aidOf at) (othersOf s t) q c r)
-
-  -- No event looks at the edition or the flag but a rejection of ours: neither the table, nor the answer, nor what is written.
-  pub steps-alike :
-      (t : List Record) (e : Event) (xs : List ℕ) (n : ℕ) → rejection e ≡ false → stepOf other t e xs n ≡ stepOf s t e xs n
-  steps-alike t event.Frame xs n r = rw (received-alike t xs n)
-  steps-alike t (event.Ask q a c) xs n r = rw (asked-alike t q a c n r)
-  steps-alike t (event.Clock d) xs n r = passed-alike t d n
-
-  pub written-alike :
-      (t : List Record) (e : Event) (xs l : List ℕ) → rejection e ≡ false → stepIn other t e xs l ≡ stepIn s t e xs l
-  unfolding passedIn
-  written-alike t event.Frame xs l r = rw (received-alike t xs (length l))
-  written-alike t (event.Ask q a c) xs l r = rw (asked-alike t q a c (length l) r)
-  written-alike t (event.Clock d) xs l r = rw (well-alike t, reports-alike d 0 t)
-
-  -- A station refuses primitives 7 and 8, so there it holds of every event.
-  station-asked : s .role ≡ station → (t : List Record) (q a c n : ℕ) → askedOf other t q a c n ≡ askedOf s t q a c n
-  unfolding inEdition askedOf askedAt othersOf mayAsk
-  station-asked role t q a c n = by-bool (rejects q c) refused (asked-alike t q a c n)
-    where
-      refused : rejects q c ≡ true → askedOf other t q a c n ≡ askedOf s t q a c n
-      refused r =
-          let away : roleAllowed q (s .role) ≡ false = rw role (not-for-stations q c r) in
-          let x : askedAt other t (addressesOf t) q a c ≡ askedAt s t (addressesOf t) q a c = rw away (barred _ _ _ t _ _) in
-          rw (well-alike t, x)
-
-  pub station-alike : s .role ≡ station → (t : List Record) (e : Event) (xs : List ℕ) (n : ℕ) → stepOf other t e xs n ≡ stepOf s t e xs n
-  station-alike role t event.Frame xs n = steps-alike t event.Frame xs n refl
-  station-alike role t (event.Ask q a c) xs n = rw (station-asked role t q a c n)
-  station-alike role t (event.Clock d) xs n = steps-alike t (event.Clock d) xs n refl
 
 -- ---- a rejection of ours, in the whole table
 
@@ -204,28 +101,23 @@ module _ (s : Settings) (t : List Record) (q a c : ℕ) (r : rejects q c ≡ tru
 
 -- ---- The hypotheses are met: at an access point a peer in State 4 at place 0 has asked for reassociation, and primitive 8 rejects it.
 
-abbrev site : ℕ → ℕ → ℕ → Settings
+abbrev pub site : ℕ → ℕ → ℕ → Settings
 site role edition protection =
-    record { own = 2; authentication = 100; association = 100; role = role; rsna = 0; edition = edition; protection = protection }
+    record { own = 2; authentication = 100; association = 100; role = role; rsna = 0; edition = edition; protection = protection; retry = 201; maximum = 1000 }
 
 abbrev asking : Record
-asking = record { address = 4; state = 4; exchange = Asked Reassociation; left = 0; hold = 0 }
+asking = record { address = 4; state = 4; exchange = Asked Reassociation; left = 0; hold = 0; query = query.None; identifier = 0 }
 
-four-kept : map stateOf (stepOf (site 1 2 1) (asking ∷ []) (event.Ask 8 4 1) [] 34 .table) ≡ 4 ∷ []
-four-kept = states-kept (site 1 2 1) (asking ∷ []) 8 4 1 refl refl refl [] 34
+four-kept : map stateOf (stepOf (site 1 2 1) (asking ∷ []) (event.Ask 8 4 1) [] 37 .table) ≡ 4 ∷ []
+four-kept = states-kept (site 1 2 1) (asking ∷ []) 8 4 1 refl refl refl [] 37
 
-still-joined : map isJoined (stepOf (site 1 2 0) (asking ∷ []) (event.Ask 8 4 1) [] 34 .table) ≡ true ∷ []
+still-joined : map isJoined (stepOf (site 1 2 0) (asking ∷ []) (event.Ask 8 4 1) [] 37 .table) ≡ true ∷ []
 unfolding isJoined
-still-joined = joined-kept (site 1 2 0) (asking ∷ []) 8 4 1 refl refl [] 34
+still-joined = joined-kept (site 1 2 0) (asking ∷ []) 8 4 1 refl refl [] 37
 
 -- (it is done, and not refused)
 not-refused :
-    (stepOf (site 1 2 0) (asking ∷ []) (event.Ask 8 4 1) [] 34 .answer .refusal ≡ 0) × (stepOf (site 1 2 0) (asking ∷ []) (event.Ask 8 4 1) [] 34 .answer .state ≡ 3)
-unfolding steppedOf askedOf unless firstOf wellFormed settingsFit timeFits validOf allTails placeFits isFree recordFits holdFits askedFits stands aloneIn sparseOf
+    (stepOf (site 1 2 0) (asking ∷ []) (event.Ask 8 4 1) [] 37 .answer .refusal ≡ 0) × (stepOf (site 1 2 0) (asking ∷ []) (event.Ask 8 4 1) [] 37 .answer .state ≡ 3)
+unfolding steppedOf askedOf unless firstOf wellFormed settingsFit queryTimesFit timeFits validOf allTails placeFits isFree recordFits queryAllowed holdFits askedFits stands aloneIn sparseOf
     askedAt mayAsk codeAllowed roleAllowed conflictOf mismatchOf heldOf noPlace firstFrom askOf respondOf declinedOf declinedMove turnOf endedOf changedOf seatedOf
 not-refused = (refl, refl)
-
--- .. and a station in the two editions, asked for what it refuses.
-same-at-station : stepOf (inEdition (site 2 1 0) 2 1) [] (event.Ask 7 4 1) [] 34 ≡ stepOf (site 2 1 0) [] (event.Ask 7 4 1) [] 34
-unfolding inEdition settingsFit
-same-at-station = station-alike (site 2 1 0) 2 1 refl refl [] (event.Ask 7 4 1) [] 34

@@ -10,9 +10,10 @@ use Rattle.octets.specs.Element.{brokenOf, ends, isResponse, walk}
 use Rattle.octets.specs.Heard.{authenticationOf, responseOf, heardOf}
 use Rattle.octets.specs.Shape.{leastManagement, isBare, leastOf, shapeOf}
 use Rattle.octets.specs.Frame.{capabilityOf, aidField, headOf, bodyOf, bytesOf, writtenOf, lengthOf}
-use Rattle.peer.specs.Settings.{settingsFit, timeFits}
-use Rattle.peer.specs.Record.{isJoined, associates, freshOf, isFree, changedOf}
-use Rattle.peer.specs.Fit.{stands, askedFits, awaitingFits, sentFits, holdFits, recordFits, placeFits}
+use Rattle.peer.specs.Settings.{queryTimesFit, settingsFit, timeFits}
+use Rattle.peer.specs.Query.{queryIn}
+use Rattle.peer.specs.Record.{isJoined, associates, freshOf, isFree, changedOf, queriedOf}
+use Rattle.peer.specs.Fit.{stands, askedFits, awaitingFits, sentFits, holdFits, queryAllowed, recordFits, placeFits}
 use Rattle.peer.specs.Moves.{dsOf}
 use Rattle.peer.specs.Reply.{apAddress, sendOf, authenticationTo, disassociationTo, requestTo, responseTo}
 use Rattle.peer.specs.Turn.{turnOf, endedOf, begunOf, repliedOf, stillOf}
@@ -20,10 +21,11 @@ use Rattle.peer.specs.Filter.{barredOf}
 use Rattle.peer.specs.Authentication.{requestedOf, authenticationAtAp, answeredMove, authenticationAtStation, authenticationHeard}
 use Rattle.peer.specs.Farewell.{deauthenticationHeard}
 use Rattle.peer.specs.Association.{requestHeard, rejectedOf, responseHeard}
+use Rattle.peer.specs.Challenge.{isChallenged, passedOf as unmarked}
 use Rattle.peer.specs.Hear.{hearOf}
 use Rattle.peer.specs.Refuse.{codeAllowed, roleAllowed, joinConflict, conflictOf, joinedElsewhere, mismatchOf, heldOf}
 use Rattle.peer.specs.Ask.{startedOf, answerOf, associateOf, awaitedOf, respondOf, reportedMove, reportOf, askOf}
-use Rattle.peer.specs.Tick.{timedOf, freedOf, tickOf}
+use Rattle.peer.specs.Tick.{timedOf, freedOf, queriedTimed, reportedOf, tickOf}
 use Rattle.table.specs.Places.{allOf, firstFrom, allTails, countOf}
 use Rattle.table.specs.Fit.{aloneIn, crowdOf, sparseOf, wellFormed}
 use Rattle.table.specs.Others.{associatedOf, othersOf}
@@ -39,11 +41,11 @@ use Rattle.table.specs.Marked.{marked}
 
 pub marked-cases : allOf comesOut marked ≡ true
 unfolding validOf groupOf octets classOf isPublicAction walk ends isResponse brokenOf authenticationOf responseOf heardOf leastManagement isBare leastOf shapeOf capabilityOf
-    aidField headOf bodyOf bytesOf writtenOf lengthOf settingsFit timeFits isJoined associates freshOf isFree changedOf stands askedFits awaitingFits
-    sentFits holdFits recordFits placeFits dsOf apAddress sendOf authenticationTo disassociationTo requestTo responseTo turnOf endedOf
+    aidField headOf bodyOf bytesOf writtenOf lengthOf settingsFit queryTimesFit timeFits isJoined associates freshOf isFree changedOf queryIn queriedOf stands askedFits awaitingFits
+    sentFits holdFits recordFits queryAllowed placeFits dsOf apAddress sendOf authenticationTo disassociationTo requestTo responseTo turnOf endedOf
     begunOf repliedOf stillOf barredOf requestedOf authenticationAtAp answeredMove authenticationAtStation authenticationHeard
-    deauthenticationHeard requestHeard rejectedOf responseHeard hearOf codeAllowed roleAllowed joinConflict conflictOf joinedElsewhere
-    mismatchOf heldOf startedOf answerOf associateOf awaitedOf respondOf reportedMove reportOf askOf timedOf freedOf tickOf firstFrom
+    deauthenticationHeard isChallenged unmarked requestHeard rejectedOf responseHeard hearOf codeAllowed roleAllowed joinConflict conflictOf joinedElsewhere
+    mismatchOf heldOf startedOf answerOf associateOf awaitedOf respondOf reportedMove reportOf askOf timedOf freedOf queriedTimed reportedOf tickOf firstFrom
     allTails countOf aloneIn crowdOf sparseOf wellFormed associatedOf othersOf settledOf refusedOf steppedOf seatedOf startsOf newcomerOf
     firstOf unless forUs readFrom readFull readOf heardFrom receivedOf mayAsk noPlace askedAt askedOf reportFor reportsOf clockedOf passedOf
     passedIn same answerFields recordFields sameTable zerosAfter tableOf lineComesOut linesComeOut comesOut marked

@@ -20,6 +20,7 @@ use Rattle.peer.specs.Association.{partedOf}
 use Rattle.peer.specs.Hear.{hearOf}
 use Rattle.peer.specs.Record.{freeOf}
 use Rattle.peer.specs.declared.record.Exchange.the-variants.{None}
+use Rattle.peer.specs.declared.query.Query.the-variants as query
 use Rattle.peer.specs.declared.record.Record.{Record}
 use Rattle.peer.specs.declared.settings.Settings.{Settings}
 use Rattle.peer.specs.declared.turn.Turn.{Turn}
@@ -127,10 +128,10 @@ place-kept s t (event.Clock d) xs n c i z = wrong (sym c)
 
 -- For one: a peer in State 4 at place 0 of an access point, deauthenticated from our own side.
 abbrev ours : Settings
-ours = record { own = 2; authentication = 100; association = 100; role = 1; rsna = 0; edition = 1; protection = 0 }
+ours = record { own = 2; authentication = 100; association = 100; role = 1; rsna = 0; edition = 1; protection = 0; retry = 201; maximum = 1000 }
 
 abbrev peer : Record
-peer = record { address = 4; state = 4; exchange = None; left = 0; hold = 0 }
+peer = record { address = 4; state = 4; exchange = None; left = 0; hold = 0; query = query.None; identifier = 0 }
 
-peer-stays : getD (stepOf ours (peer ∷ []) (event.Ask 3 4 1) [] 34 .table) 0 freeOf .address ≡ 4
-peer-stays = place-kept ours (peer ∷ []) (event.Ask 3 4 1) [] 34 refl 0 refl
+peer-stays : getD (stepOf ours (peer ∷ []) (event.Ask 3 4 1) [] 37 .table) 0 freeOf .address ≡ 4
+peer-stays = place-kept ours (peer ∷ []) (event.Ask 3 4 1) [] 37 refl 0 refl

@@ -24,7 +24,7 @@ use Rattle.octets.specs.declared.shape.Shape.the-variants.{Misfit, Classless, B
 use Rattle.peer.proofs.AskSaid.{ask-said}
 use Rattle.peer.proofs.Fits.{Fits, both, fits-of, or-left, wrong}
 use Rattle.peer.proofs.HearSaid.{full-said, hear-said}
-use Rattle.peer.proofs.Keeps.{found-fits, fresh-fits}
+use Rattle.peer.proofs.Keeps.{found-fits, fresh-fits, query-soon}
 use Rattle.peer.proofs.Sent.{valid-below}
 use Rattle.peer.specs.Ask.{askOf}
 use Rattle.peer.specs.Authentication.{fullOf}
@@ -34,6 +34,7 @@ use Rattle.peer.specs.Record.{freeOf, freshOf, isFree, isJoined, underWay}
 use Rattle.peer.specs.Refuse.{codeAllowed}
 use Rattle.peer.specs.Said.{ReadsTo, Speaks, repliedSays}
 use Rattle.peer.specs.Settings.{ap}
+use Rattle.peer.specs.declared.query.Query.the-variants as query
 use Rattle.peer.specs.declared.record.Record.{Record}
 use Rattle.peer.specs.declared.refuse.Others.{Others}
 use Rattle.peer.specs.declared.reply.Reply.{Reply}
@@ -121,21 +122,21 @@ module _ (s : Settings) where
     -- ---- frames
 
     module _ (xs : List ℕ) (o : allOctets xs ≡ true) (k : classless (classOf xs) ≡ false) (group : Bool) where
-      turned : (p : Record) → Fits s p → Speaks s (p .address) (repliedSays s (p .state) (numberOf (classOf xs)) (heardOf xs)) (hearOf s p (classOf xs) group (heardOf xs) .reply)
-      turned p f = hear-said s (w .settings) p (f .valid) (f .low) xs o k group
+      turned : (p : Record) → Fits s p → Speaks s (p .address) (repliedSays s (p .state) (p .query) (numberOf (classOf xs)) (heardOf xs)) (hearOf s p (classOf xs) group (heardOf xs) .reply)
+      turned p f = hear-said s (w .settings) p (f .valid) (f .low) (query-soon s p (w .settings) f) xs o k group
 
-      stranger-said : (a : ℕ) (free : Found) → Fits s (freshOf a) → Said a (repliedSays s 1 (numberOf (classOf xs)) (heardOf xs)) (newcomerOf t free (hearOf s (freshOf a) (classOf xs) group (heardOf xs)) (fullOf s (freshOf a)))
+      stranger-said : (a : ℕ) (free : Found) → Fits s (freshOf a) → Said a (repliedSays s 1 query.None (numberOf (classOf xs)) (heardOf xs)) (newcomerOf t free (hearOf s (freshOf a) (classOf xs) group (heardOf xs)) (fullOf s (freshOf a)))
       unfolding newcomerOf strangerOf seatedOf startsOf freshOf
       stranger-said a free f =
           pick-by (Said a _) (not (eqb (underWay (hearOf s (freshOf a) (classOf xs) group (heardOf xs) .peer .exchange)) 0))
           (λ b. placed free (not-true _ b))
           (λ b. turned (freshOf a) f)
         where
-          placed : (free : Found) → eqb (underWay (hearOf s (freshOf a) (classOf xs) group (heardOf xs) .peer .exchange)) 0 ≡ false → Said a (repliedSays s 1 (numberOf (classOf xs)) (heardOf xs)) (onFound free (strangerOf t (fullOf s (freshOf a))) (λ i. seatedOf t i (hearOf s (freshOf a) (classOf xs) group (heardOf xs))))
-          placed Nothing b = full-said s (w .settings) (freshOf a) (f .valid) (f .low) refl refl xs k group b
+          placed : (free : Found) → eqb (underWay (hearOf s (freshOf a) (classOf xs) group (heardOf xs) .peer .exchange)) 0 ≡ false → Said a (repliedSays s 1 query.None (numberOf (classOf xs)) (heardOf xs)) (onFound free (strangerOf t (fullOf s (freshOf a))) (λ i. seatedOf t i (hearOf s (freshOf a) (classOf xs) group (heardOf xs))))
+          placed Nothing b = full-said s (w .settings) (freshOf a) (f .valid) (f .low) (query-soon s (freshOf a) (w .settings) f) refl refl xs k group b
           placed (At i) b = turned (freshOf a) f
 
-      from-said : (a : ℕ) → not (eqb a (s .own)) ≡ true → validOf a ≡ true → (at free : Found) → findOf (addressesOf t) a ≡ at → Said a (repliedSays s (peerOf t at a .state) (numberOf (classOf xs)) (heardOf xs)) (turnIn t at free (hearOf s (peerOf t at a) (classOf xs) group (heardOf xs)) (fullOf s (peerOf t at a)))
+      from-said : (a : ℕ) → not (eqb a (s .own)) ≡ true → validOf a ≡ true → (at free : Found) → findOf (addressesOf t) a ≡ at → Said a (repliedSays s (peerOf t at a .state) (peerOf t at a .query) (numberOf (classOf xs)) (heardOf xs)) (turnIn t at free (hearOf s (peerOf t at a) (classOf xs) group (heardOf xs)) (fullOf s (peerOf t at a)))
       unfolding seatedOf freshOf
       from-said a own v Nothing free e = stranger-said a free (fresh-fits s a own v)
       from-said a own v (At i) free e =
@@ -187,7 +188,7 @@ module _ (s : Settings) where
         let f = peer-fits a (peer .0) (peer .1) at refl in
         turn-said a h at (findOf (addressesOf t) 0) turn
         (subst (λ (b : ℕ). Speaks s b h (turn .reply)) (f .1)
-        (ask-said s (w .settings) (peerOf t at a) (f .0 .valid) (aidOf at) (aid-small at) (othersOf s t) (others-below t (w .places)) q c short)))
+        (ask-said s (w .settings) (peerOf t at a) (f .0 .valid) (f .0 .numbered) (aidOf at) (aid-small at) (othersOf s t) (others-below t (w .places)) q c short)))
 
 -- ---- each event
 

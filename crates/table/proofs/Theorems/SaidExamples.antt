@@ -1,4 +1,4 @@
--- What `step-said` says of two steps, computed; and that the AID, the state and the associated AP of which it speaks are those of the records'
+-- What `step-said` says of four steps, computed; and that the AID, the state and the associated AP of which it speaks are those of the records'
 -- places (`aid-place`, `peer-place`, `associated-place`).
 -- Assumes nothing.
 use Prim.Native.Nat.{ℕ, zero, suc, _+_, _<_, _≤_}
@@ -15,24 +15,29 @@ use Rattle.octets.specs.Address.{validOf, groupOf}
 use Rattle.octets.specs.Class.{classOf, isPublicAction}
 use Rattle.octets.specs.Element.{brokenOf, isResponse}
 use Rattle.octets.specs.Field.{octets}
-use Rattle.octets.specs.Frame.{aidField, bodyOf, bytesOf, capabilityOf, headOf, lengthOf, writtenOf}
+use Rattle.octets.specs.Frame.{aidField, bodyOf, bytesOf, capabilityOf, comebackElement, headOf, lengthOf, writtenOf}
 use Rattle.octets.specs.Heard.{heardOf}
-use Rattle.octets.specs.Shape.{isBare, leastOf, shapeOf}
-use Rattle.octets.specs.declared.element.Comeback.the-variants.{Absent}
+use Rattle.octets.specs.Shape.{isBare, leastManagement, leastOf, shapeOf}
+use Rattle.octets.specs.declared.element.Comeback.the-variants.{Absent, Given}
 use Rattle.octets.specs.declared.heard.Heard.the-variants as heard
 use Rattle.octets.specs.declared.heard.Kind.the-variants.{Association}
+use Rattle.peer.proofs.Queries.{site}
 use Rattle.peer.specs.Ask.{askOf, awaitedOf, respondOf}
+use Rattle.peer.specs.Association.{requestHeard}
+use Rattle.peer.specs.Challenge.{challengedOf, inquiredOf, isChallenged, queryingOf}
 use Rattle.peer.specs.Filter.{barredOf}
-use Rattle.peer.specs.Fit.{askedFits, holdFits, placeFits, recordFits, stands}
+use Rattle.peer.specs.Fit.{askedFits, holdFits, placeFits, queryAllowed, queryStands, recordFits, runningFits, stands}
 use Rattle.peer.specs.Hear.{hearOf}
 use Rattle.peer.specs.Moves.{dsOf}
-use Rattle.peer.specs.Record.{associates, changedOf, freeOf, freshOf, isFree, isJoined}
+use Rattle.peer.specs.Query.{queryIn, runningOf}
+use Rattle.peer.specs.Record.{associates, changedOf, freeOf, freshOf, isFree, isJoined, queriedOf}
 use Rattle.peer.specs.Refuse.{codeAllowed, conflictOf, heldOf, joinedElsewhere, mismatchOf, roleAllowed}
-use Rattle.peer.specs.Reply.{apAddress, deauthenticationTo, responseTo, sendOf}
+use Rattle.peer.specs.Reply.{apAddress, deauthenticationTo, laterTo, queryTo, responseTo, sendOf}
 use Rattle.peer.specs.Said.{ReadsTo}
-use Rattle.peer.specs.Settings.{settingsFit, station, timeFits}
+use Rattle.peer.specs.Settings.{queryTimesFit, settingsFit, station, timeFits}
 use Rattle.peer.specs.Turn.{begunOf, repliedOf, turnOf}
 use Rattle.peer.specs.declared.record.Exchange.the-variants.{Asked, None}
+use Rattle.peer.specs.declared.query.Query.the-variants as query
 use Rattle.peer.specs.declared.record.Record.{Record}
 use Rattle.peer.specs.declared.settings.Settings.{Settings}
 use Rattle.table.specs.Answer.{refusedOf, settledOf, steppedOf}
@@ -47,18 +52,19 @@ use Rattle.table.specs.Seat.{aidOf, newcomerOf, peerOf, seatedOf, starts
 use Rattle.table.specs.declared.rules.event.Event.the-variants as event
 use Rattle.table.specs.declared.rules.seat.Found.the-variants.{At}
 use Rattle.table.proofs.Order.OwnRecord.{find-at, wf-distinct}
+use Rattle.table.proofs.Theorems.Forged.{request, with}
 use Rattle.table.proofs.Theorems.SaidBack.{step-said}
 use Rattle.table.proofs.Theorems.Well.{well-of}
 
 -- ---- two steps of an AP, own address 0a, with 0c associated and 0e at place 1, whose association is asked
 
 abbrev home : Settings
-home = record { role = 1; own = 0x0a; rsna = 0; authentication = 10; association = 10; edition = 1; protection = 0 }
+home = record { role = 1; own = 0x0a; rsna = 0; authentication = 10; association = 10; edition = 1; protection = 0; retry = 201; maximum = 1000 }
 
 abbrev two : List Record
 two =
-    (record { address = 0x0c; state = 4; exchange = None; left = 0; hold = 0 })
-    ∷ (record { address = 0x0e; state = 2; exchange = Asked Association; left = 0; hold = 0 })
+    (record { address = 0x0c; state = 4; exchange = None; left = 0; hold = 0; query = query.None; identifier = 0 })
+    ∷ (record { address = 0x0e; state = 2; exchange = Asked Association; left = 0; hold = 0; query = query.None; identifier = 0 })
     ∷ replicate 30 freeOf
 
 -- primitive 7, status 0
@@ -66,24 +72,44 @@ accepted :
     ReadsTo home 0x0e (heard.Response Association 0 2 Absent)
     (0x10 ∷ 0 ∷ 0 ∷ 0 ∷ 0x0e ∷ 0 ∷ 0 ∷ 0 ∷ 0 ∷ 0 ∷ 0x0a ∷ 0 ∷ 0 ∷ 0 ∷ 0 ∷ 0 ∷ 0x0a ∷ 0 ∷ 0 ∷ 0 ∷ 0 ∷ 0 ∷ 0 ∷ 0 ∷
     0x01 ∷ 0 ∷ 0 ∷ 0 ∷ 2 ∷ 0xc0 ∷ [])
-unfolding validOf octets capabilityOf aidField headOf bodyOf bytesOf writtenOf lengthOf settingsFit timeFits isJoined associates freshOf isFree
-    changedOf stands askedFits holdFits recordFits placeFits dsOf apAddress sendOf responseTo turnOf begunOf codeAllowed roleAllowed conflictOf
+unfolding validOf octets capabilityOf aidField headOf bodyOf bytesOf writtenOf lengthOf settingsFit queryTimesFit timeFits isJoined associates freshOf isFree
+    changedOf queryIn stands askedFits holdFits recordFits queryAllowed placeFits dsOf apAddress sendOf responseTo turnOf begunOf codeAllowed roleAllowed conflictOf
     joinedElsewhere mismatchOf heldOf awaitedOf respondOf askOf firstFrom allTails countOf aloneIn crowdOf sparseOf wellFormed associatedOf
     othersOf settledOf refusedOf steppedOf seatedOf startsOf newcomerOf firstOf unless mayAsk noPlace askedAt askedOf
-accepted = step-said home two refl (event.Ask 7 0x0e 0) [] (replicate 34 0) (omega arith) (omega arith)
+accepted = step-said home two refl (event.Ask 7 0x0e 0) [] (replicate 37 0) (omega arith) (omega arith)
 
 -- a data frame of a stranger, 06
 kept-out :
     ReadsTo home 0x06 (heard.Deauthentication 7)
     (0xc0 ∷ 0 ∷ 0 ∷ 0 ∷ 0x06 ∷ 0 ∷ 0 ∷ 0 ∷ 0 ∷ 0 ∷ 0x0a ∷ 0 ∷ 0 ∷ 0 ∷ 0 ∷ 0 ∷ 0x0a ∷ 0 ∷ 0 ∷ 0 ∷ 0 ∷ 0 ∷ 0 ∷ 0 ∷ 7 ∷ 0 ∷ [])
-unfolding validOf groupOf octets classOf isPublicAction isResponse brokenOf heardOf isBare leastOf shapeOf headOf bodyOf bytesOf writtenOf lengthOf settingsFit timeFits isJoined
-    associates freshOf isFree changedOf stands askedFits holdFits recordFits placeFits dsOf apAddress sendOf deauthenticationTo turnOf repliedOf
+unfolding validOf groupOf octets classOf isPublicAction isResponse brokenOf heardOf isBare leastOf shapeOf headOf bodyOf bytesOf writtenOf lengthOf settingsFit queryTimesFit timeFits isJoined
+    associates freshOf isFree changedOf queryIn stands askedFits holdFits recordFits queryAllowed placeFits dsOf apAddress sendOf deauthenticationTo turnOf repliedOf
     barredOf hearOf firstFrom allTails countOf aloneIn crowdOf sparseOf wellFormed settledOf refusedOf steppedOf seatedOf startsOf newcomerOf
     strangerOf forUs readFrom readFull readOf heardFrom receivedOf
 kept-out =
     step-said home two refl event.Frame
     (0x08 ∷ 1 ∷ 0 ∷ 0 ∷ 0x0a ∷ 0 ∷ 0 ∷ 0 ∷ 0 ∷ 0 ∷ 0x06 ∷ 0 ∷ 0 ∷ 0 ∷ 0 ∷ 0 ∷ 0x0c ∷ 0 ∷ 0 ∷ 0 ∷ 0 ∷ 0 ∷ 0 ∷ 0 ∷ [])
-    (replicate 34 0) refl (omega arith)
+    (replicate 37 0) refl (omega arith)
+
+-- 02, K5: an association request in the name of 04, in State 4, with edition 2 and protection
+put-off :
+    ReadsTo site 0x04 (heard.Response Association 30 0 (Given 1000))
+    (0x10 ∷ 0 ∷ 0 ∷ 0 ∷ 0x04 ∷ 0 ∷ 0 ∷ 0 ∷ 0 ∷ 0 ∷ 0x02 ∷ 0 ∷ 0 ∷ 0 ∷ 0 ∷ 0 ∷ 0x02 ∷ 0 ∷ 0 ∷ 0 ∷ 0 ∷ 0 ∷ 0 ∷ 0 ∷
+    0x01 ∷ 0 ∷ 30 ∷ 0 ∷ 0 ∷ 0 ∷ 56 ∷ 5 ∷ 3 ∷ 0xe8 ∷ 0x03 ∷ 0 ∷ 0 ∷ [])
+unfolding validOf groupOf octets classOf isPublicAction isResponse brokenOf heardOf leastManagement isBare leastOf shapeOf capabilityOf comebackElement aidField
+    headOf bodyOf bytesOf writtenOf lengthOf settingsFit queryTimesFit timeFits isFree holdFits recordFits queryAllowed placeFits apAddress sendOf laterTo
+    turnOf isChallenged challengedOf queryingOf queriedOf runningOf requestHeard hearOf firstFrom allTails aloneIn sparseOf wellFormed settledOf refusedOf
+    steppedOf seatedOf forUs readFrom readFull readOf heardFrom receivedOf
+put-off = step-said site (with query.None) refl event.Frame request (replicate 37 0) refl (omega arith)
+
+-- and primitive 11, where the query to it is due
+inquired :
+    ReadsTo site 0x04 (heard.QueryRequest 6)
+    (0xd0 ∷ 0 ∷ 0 ∷ 0 ∷ 0x04 ∷ 0 ∷ 0 ∷ 0 ∷ 0 ∷ 0 ∷ 0x02 ∷ 0 ∷ 0 ∷ 0 ∷ 0 ∷ 0 ∷ 0x02 ∷ 0 ∷ 0 ∷ 0 ∷ 0 ∷ 0 ∷ 0 ∷ 0 ∷ 8 ∷ 0 ∷ 6 ∷ 0 ∷ [])
+unfolding validOf octets headOf bodyOf bytesOf writtenOf lengthOf settingsFit queryTimesFit timeFits isFree holdFits recordFits queryAllowed runningFits queryStands
+    placeFits apAddress sendOf queryTo turnOf inquiredOf queriedOf codeAllowed roleAllowed conflictOf mismatchOf heldOf askOf firstFrom allTails aloneIn sparseOf
+    wellFormed othersOf settledOf refusedOf steppedOf seatedOf firstOf unless mayAsk noPlace askedAt askedOf
+inquired = step-said site (with (query.Running 3 true)) refl (event.Ask 11 0x04 0) [] (replicate 37 0) (omega arith) (omega arith)
 
 -- ---- the places
 

@@ -93,7 +93,7 @@ module _ (s : Settings) (t : List Record) (w : Well s t) where
       by-bool (brokenOf xs) (λ b. rw (e, g, b) w) (λ b.
       rw (e, g, b) (in-turn s t w true (λ r b. wrong (sym b)) (field 6 10 xs) (rw (n .0)) (not-false _ (n .1))
       (findOf (addressesOf t) (field 6 10 xs)) (findOf (addressesOf t) 0) _ _ refl
-      (λ f. hear-keeps s true (peerOf t (findOf (addressesOf t) (field 6 10 xs)) (field 6 10 xs)) f
+      (λ f. hear-keeps s true (peerOf t (findOf (addressesOf t) (field 6 10 xs)) (field 6 10 xs)) f (w .settings)
       (classOf xs) (groupOf (field 6 4 xs)) (heardOf xs) (backed xs) (λ r. heard-fits xs (o r)))))))
 
   frame-keeps : (xs : List ℕ) → Framed s xs → (n : ℕ) → Well s (receivedOf s t xs n .table)

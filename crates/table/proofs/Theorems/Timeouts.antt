@@ -1,4 +1,5 @@
--- 01: the bytes-written number of a clock step is "eight times the timeouts": `clock-count`.
+-- 01: the bytes-written number of a clock step is "eight times the timeouts": `clock-count`. 02, K5: with them are counted the queries that come
+-- due or to their maximum; "one report a record", its kind by `report-kind`.
 -- Assumes nothing.
 use Prim.Native.Nat.{ℕ, _+_, _*_}
 use mathlib.Core.Path.{_≡_, refl, sym, _∙_}
@@ -9,14 +10,17 @@ use lib.Dec.{ltb, leb, eqb}
 use lib.ListN.{length, length-append}
 use borrow.Author.Tests.{ltb-true, ltb-false, le-leb, lt-leb, not-true, not-false}
 use Rattle.octets.specs.Pick.{pick}
-use Rattle.octets.specs.Address.{validOf}
 use Rattle.octets.specs.declared.heard.Kind.{Kind}
 use Rattle.octets.specs.declared.heard.Kind.the-variants as kind
-use Rattle.octets.proofs.Branch.{and-left, and-right, by-bool}
-use Rattle.peer.specs.Settings.{settingsFit}
-use Rattle.peer.specs.Record.{kindOf, underWay, isFree}
-use Rattle.peer.specs.Fit.{exchangeFits, holdFits, recordFits, placeFits}
-use Rattle.peer.specs.Tick.{timedOf, tickOf}
+use Rattle.octets.proofs.Branch.{and-left, and-right, by-bool, pick-both}
+use Rattle.peer.proofs.Fits.{clash, fits-of}
+use Rattle.peer.specs.Query.{queryIn, queryNumber, queryReport, reaches, runningNumber, runningReport}
+use Rattle.peer.specs.Settings.{ap, settingsFit}
+use Rattle.peer.specs.Record.{changedOf, kindOf, underWay, isFree}
+use Rattle.peer.specs.Fit.{exchangeFits, placeFits, queryFits, queryStands, runningFits}
+use Rattle.peer.specs.Tick.{reportedOf, timedOf, tickOf}
+use Rattle.peer.specs.declared.query.Query.{Query}
+use Rattle.peer.specs.declared.query.Query.the-variants as query
 use Rattle.peer.specs.declared.settings.Settings.{Settings}
 use Rattle.peer.specs.declared.record.Record.{Record}
 use Rattle.peer.specs.declared.record.Exchange.{Exchange}
@@ -27,7 +31,7 @@ use Rattle.table.specs.Refusals.{firstOf}
 use Rattle.table.specs.Pass.{reportFor, reportsOf, passRefusals, clockedOf, passedOf}
 use Rattle.table.specs.Step.{stepOf}
 use Rattle.table.specs.Exactly.{NoneHolds}
-use Rattle.table.specs.Written.{timesOut}
+use Rattle.table.specs.Written.{comesDue, reports, timesOut}
 use Rattle.table.specs.declared.rules.event.Event.the-variants as event
 use Rattle.table.proofs.Passes.Ticks.{report-length}
 use Rattle.table.proofs.Theorems.RefusedExactly.{refused-exactly, refusal-first}
@@ -44,13 +48,6 @@ runs (Asked k) role state left h z = some-kind k
 runs (Awaiting k) role state left h z = some-kind k
 runs (Sent k) role state left h z = some-kind k
 
-record-runs : (s : Settings) (p : Record) → recordFits s p ≡ true → exchangeFits (p .exchange) (s .role) (p .state) (p .left) ≡ true
-unfolding recordFits
-record-runs s p h =
-    and-right (holdFits (s .role) (p .hold)) _
-    (and-right (validOf (p .address)) _
-    (and-right (not (eqb (p .address) (s .own))) _ (and-right (leb (p .state) 4) _ (and-right (leb 1 (p .state)) _ h))))
-
 free-still : (p : Record) → isFree p ≡ true → eqb (p .left) 0 ≡ true
 unfolding isFree
 free-still p h = and-left (eqb (p .left) 0) _ (and-right (eqb (p .state) 0) _ (and-right (eqb (p .address) 0) _ h))
@@ -59,16 +56,64 @@ place-runs : (s : Settings) (p : Record) → placeFits s p ≡ true → eqb (p .
 unfolding placeFits
 place-runs s p h z = by-bool (isFree p)
     (λ e. cc (free-still p e))
-    (λ e. runs (p .exchange) (s .role) (p .state) (p .left) (record-runs s p (rw e at h)) z)
+    (λ e. runs (p .exchange) (s .role) (p .state) (p .left) (fits-of s p (rw e at h) .suits) z)
 
-place-count : (s : Settings) (d n : ℕ) (p : Record) → placeFits s p ≡ true → length (reportFor n (tickOf s p d .report) (p .address)) ≡ 8 * pick (timesOut d p) 1 0
-unfolding reportFor tickOf timedOf
-place-count s d n p h = by-bool (eqb (p .left) 0) (λ a. simp a) (λ a.
+-- a query stands in State 4 alone, so no step takes it from its place before it is looked at
+four-only : (s : Settings) (state : ℕ) (q : Query) → queryFits s state q ≡ true → queryIn state q ≡ q
+unfolding queryIn runningFits queryStands
+four-only s state query.None h = pick-both (λ (q : Query). q ≡ query.None) (eqb state 4) refl refl
+four-only s state (query.Running left due) h =
+    rw (and-right (eqb (s .role) ap) _ (and-right (leb left (s .maximum)) _ (and-right (not (eqb left 0)) _ h)))
+four-only s state query.TimedOut h = rw (and-right (eqb (s .role) ap) _ h)
+
+none-only : (state : ℕ) (q : Query) → eqb (queryNumber q) 0 ≡ true → queryIn state q ≡ q
+unfolding queryIn runningNumber
+none-only state query.None h = pick-both (λ (q : Query). q ≡ query.None) (eqb state 4) refl refl
+none-only state (query.Running left true) h = clash h refl
+none-only state (query.Running left false) h = clash h refl
+none-only state query.TimedOut h = clash h refl
+
+free-query : (p : Record) → isFree p ≡ true → eqb (queryNumber (p .query)) 0 ≡ true
+unfolding isFree
+free-query p h =
+    and-left (eqb (queryNumber (p .query)) 0) _
+    (and-right (eqb (p .identifier) 0) _
+    (and-right (eqb (p .hold) 0) _
+    (and-right (eqb (p .left) 0) _ (and-right (eqb (p .state) 0) _ (and-right (eqb (p .address) 0) _ h)))))
+
+place-query : (s : Settings) (p : Record) → placeFits s p ≡ true → queryIn (p .state) (p .query) ≡ p .query
+unfolding placeFits
+place-query s p h = by-bool (isFree p)
+    (λ e. none-only (p .state) (p .query) (free-query p e))
+    (λ e. four-only s (p .state) (p .query) (fits-of s p (rw e at h) .queries))
+
+-- the octets of a query's report
+query-count : (s : Settings) (d n a : ℕ) (q : Query) → length (reportFor n (queryReport s q d) a) ≡ 8 * pick (comesDue s d q) 1 0
+unfolding reportFor runningReport
+query-count s d n a query.None = refl
+query-count s d n a (query.Running left due) = by-bool (leb left d)
+    (λ e. rw e (report-length n 5 a refl))
+    (λ e. by-bool (reaches s left d) (λ r. rw (e, r) (report-length n 4 a refl)) (λ r. rw (e, r)))
+query-count s d n a query.TimedOut = refl
+
+-- Who is reported, and why: an exchange that ends by its kind, 1 to 3; else a query, 5 at its maximum and 4 at a retry; 0 is no report.
+pub report-kind :
+    (s : Settings) (d : ℕ) (p : Record) → placeFits s p ≡ true
+    → tickOf s p d .report ≡ pick (timesOut d p) (underWay (p .exchange)) (queryReport s (p .query) d)
+unfolding tickOf timedOf reportedOf changedOf
+report-kind s d p h = by-bool (eqb (p .left) 0) (λ a. rw (a, place-query s p h)) (λ a.
     by-bool (ltb d (p .left))
-    (λ b. simp (a, b, lt-leb (p .left) d (ltb-true d (p .left) b)))
-    (λ b. simp (a, b, le-leb (p .left) d (ltb-false d (p .left) b)) (report-length n (underWay (p .exchange)) (p .address) (place-runs s p h a))))
+    (λ b. rw (a, b, lt-leb (p .left) d (ltb-true d (p .left) b), place-query s p h))
+    (λ b. rw (a, b, le-leb (p .left) d (ltb-false d (p .left) b), place-runs s p h a)))
 
-reports-count : (s : Settings) (d n : ℕ) (t : List Record) → allOf (placeFits s) t ≡ true → length (reportsOf s d n t) ≡ 8 * countOf (timesOut d) t
+place-count : (s : Settings) (d n : ℕ) (p : Record) → placeFits s p ≡ true → length (reportFor n (tickOf s p d .report) (p .address)) ≡ 8 * pick (reports s d p) 1 0
+place-count s d n p h = by-bool (timesOut d p)
+    (λ e.
+    let some = not-true (eqb (p .left) 0) (and-left (not (eqb (p .left) 0)) _ e) in
+    rw (report-kind s d p h, e) (report-length n (underWay (p .exchange)) (p .address) (place-runs s p h some)))
+    (λ e. rw (report-kind s d p h, e) (query-count s d n (p .address) (p .query)))
+
+reports-count : (s : Settings) (d n : ℕ) (t : List Record) → allOf (placeFits s) t ≡ true → length (reportsOf s d n t) ≡ 8 * countOf (reports s d) t
 unfolding reportsOf countOf allTails
 reports-count s d n [] h = refl
 reports-count s d n (p ∷ t) h =
@@ -81,7 +126,7 @@ pass-fits s t d n h =
     let fit = not-false (wellFormed s t) (not-true (not (wellFormed s t)) (and-left (not (not (wellFormed s t))) _ (and-right (not (ltb n 256)) _ h))) in
     and-left (allOf (placeFits s) t) (distinctOf (addressesOf t) && sparseOf s t) (and-right (settingsFit s) _ fit)
 
-pub clock-count : (s : Settings) (t : List Record) (d : ℕ) (xs : List ℕ) (n : ℕ) → stepOf s t (event.Clock d) xs n .answer .refusal ≡ 0 → stepOf s t (event.Clock d) xs n .answer .written ≡ 8 * countOf (timesOut d) t
+pub clock-count : (s : Settings) (t : List Record) (d : ℕ) (xs : List ℕ) (n : ℕ) → stepOf s t (event.Clock d) xs n .answer .refusal ≡ 0 → stepOf s t (event.Clock d) xs n .answer .written ≡ 8 * countOf (reports s d) t
 unfolding passedOf clockedOf
 clock-count s t d xs n h =
     let done = refused-exactly s t (event.Clock d) xs n .done h in

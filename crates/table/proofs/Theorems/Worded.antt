@@ -16,6 +16,7 @@ use Rattle.octets.specs.declared.heard.Kind.{Kind}
 use Rattle.octets.specs.declared.heard.Kind.the-variants.{Authentication, Association, Reassociation}
 use Rattle.peer.proofs.Fits.{both}
 use Rattle.peer.specs.Fit.{placeFits}
+use Rattle.peer.specs.Query.{isDue}
 use Rattle.peer.specs.Record.{associates, awaitingOf, freeOf, freshOf, isAsked, isFree, isJoined}
 use Rattle.peer.specs.Refuse.{codeAllowed, roleAllowed, conflictOf, joinConflict, joinedElsewhere, mismatchOf, heldOf}
 use Rattle.peer.specs.Settings.{ap, settingsFit, station}
@@ -133,6 +134,10 @@ module _ (s : Settings) (t : List Record) (w : Facts s t) (a : ℕ) (v : validOf
   unfolding freshOf
   awaits-same = apply not (has-peer (λ (p : Record). not (eqb (awaitingOf (p .exchange)) 0)) refl) ∙ not-not (eqb (awaitingOf (peer .exchange)) 0)
 
+  due-same : not (peerHas t a (λ p. isDue (p .query))) ≡ not (isDue (peer .query))
+  unfolding freshOf
+  due-same = apply not (has-peer (λ (p : Record). isDue (p .query)) refl)
+
   -- at a station
   module _ (r : eqb (s .role) ap ≡ false) where
     busy-same : someOf associates t ≡ others .busy
@@ -166,10 +171,11 @@ module _ (s : Settings) (t : List Record) (w : Facts s t) (a : ℕ) (v : validOf
       (λ r. record { nine = refl; seven = or-false _ ∙ asked-same Association; eight = refl; six = refl })
       (λ r. record { nine = refl; seven = or-false _ ∙ asked-same Reassociation; eight = refl; six = refl })
       (λ r. record { nine = refl; seven = or-false _ ∙ secure-same; eight = refl; six = refl })
-      (λ r. record { nine = refl; seven = awaits-same; eight = refl; six = refl })
+      (λ r. record { nine = refl; seven = or-false _ ∙ awaits-same; eight = refl; six = refl })
+      (λ r. record { nine = refl; seven = due-same; eight = refl; six = refl })
       (λ q o r. record {
         nine = simp (o .is1, o .is4, o .is5);
-        seven = simp (o .is2, o .is4, o .is7, o .is8, o .is9, o .is10);
+        seven = simp (o .is2, o .is4, o .is7, o .is8, o .is9, o .is10, o .is11);
         eight = simp (o .is4, o .is5);
         six = simp (o .is1);
       })

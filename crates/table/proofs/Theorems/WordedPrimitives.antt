@@ -1,4 +1,4 @@
--- The ten primitives: what holds of each and of every other number holds of all. Refusals 3 and 5, worded by the table of primitives
+-- The eleven primitives: what holds of each and of every other number holds of all. Refusals 3 and 5, worded by the table of primitives
 -- (specs/Exactly.antt), are the rule's.
 -- Assumes nothing.
 use Prim.Native.Nat.{ℕ}
@@ -15,9 +15,9 @@ use Rattle.peer.specs.declared.settings.Settings.{Settings}
 use Rattle.table.specs.Ask.{mayAsk}
 use Rattle.table.specs.Exactly.{someOf, row, taken, plays, notToBeAsked}
 
--- ---- ten numbers
+-- ---- eleven numbers
 
--- a number that is none of the ten
+-- a number that is none of the eleven
 pub record Other (q : ℕ) : Type 0 where
   pub is1 : eqb q 1 ≡ false
   pub is2 : eqb q 2 ≡ false
@@ -29,16 +29,18 @@ pub record Other (q : ℕ) : Type 0 where
   pub is8 : eqb q 8 ≡ false
   pub is9 : eqb q 9 ≡ false
   pub is10 : eqb q 10 ≡ false
+  pub is11 : eqb q 11 ≡ false
 
 module _ (P : ℕ → Type 0) where
   or-else : (k : ℕ) → P k → (q : ℕ) → (eqb q k ≡ false → P q) → P q
   or-else k p q next = by-bool (eqb q k) (λ e. rw (eqb-true q k e) p) next
 
-  pub by-number : P 1 → P 2 → P 3 → P 4 → P 5 → P 6 → P 7 → P 8 → P 9 → P 10 → ((q : ℕ) → Other q → P q) → (q : ℕ) → P q
-  by-number p1 p2 p3 p4 p5 p6 p7 p8 p9 p10 other q =
+  pub by-number : P 1 → P 2 → P 3 → P 4 → P 5 → P 6 → P 7 → P 8 → P 9 → P 10 → P 11 → ((q : ℕ) → Other q → P q) → (q : ℕ) → P q
+  by-number p1 p2 p3 p4 p5 p6 p7 p8 p9 p10 p11 other q =
       or-else 1 p1 q (λ e1. or-else 2 p2 q (λ e2. or-else 3 p3 q (λ e3. or-else 4 p4 q (λ e4. or-else 5 p5 q (λ e5.
       or-else 6 p6 q (λ e6. or-else 7 p7 q (λ e7. or-else 8 p8 q (λ e8. or-else 9 p9 q (λ e9. or-else 10 p10 q (λ e10.
-      other q (record { is1 = e1; is2 = e2; is3 = e3; is4 = e4; is5 = e5; is6 = e6; is7 = e7; is8 = e8; is9 = e9; is10 = e10 })))))))))))
+      or-else 11 p11 q (λ e11.
+      other q (record { is1 = e1; is2 = e2; is3 = e3; is4 = e4; is5 = e5; is6 = e6; is7 = e7; is8 = e8; is9 = e9; is10 = e10; is11 = e11 }))))))))))))
 
 -- ---- 3 and 5: the table of primitives
 
@@ -49,8 +51,8 @@ codes-same : (c q : ℕ) → CodesSame c q
 unfolding someOf codeAllowed
 codes-same c =
     by-number (CodesSame c) zero-code refl other-code zero-code zero-code other-code refl refl zero-code
-    (by-bool (leb c 1) (λ e. rw e) (λ e. rw e))
-    (λ q o. simp (o .is1, o .is2, o .is3, o .is4, o .is5, o .is6, o .is7, o .is8, o .is9, o .is10))
+    (by-bool (leb c 1) (λ e. rw e) (λ e. rw e)) zero-code
+    (λ q o. simp (o .is1, o .is2, o .is3, o .is4, o .is5, o .is6, o .is7, o .is8, o .is9, o .is10, o .is11))
   where
     zero-code : (not (eqb c 0) || false) ≡ not (eqb c 0)
     zero-code = or-false (not (eqb c 0))
@@ -64,8 +66,8 @@ RolesSame role q = row q (λ r. not (plays (r .who) role)) ≡ not (roleAllowed 
 pub roles-same : (role q : ℕ) → RolesSame role q
 unfolding someOf roleAllowed
 roles-same role =
-    by-number (RolesSame role) at-stations at-aps refl at-stations at-stations refl at-aps at-aps refl at-aps
-    (λ q o. simp (o .is1, o .is2, o .is3, o .is4, o .is5, o .is6, o .is7, o .is8, o .is9, o .is10))
+    by-number (RolesSame role) at-stations at-aps refl at-stations at-stations refl at-aps at-aps refl at-aps at-aps
+    (λ q o. simp (o .is1, o .is2, o .is3, o .is4, o .is5, o .is6, o .is7, o .is8, o .is9, o .is10, o .is11))
   where
     at-stations : (not (eqb role station) || false) ≡ not (eqb role station)
     at-stations = or-false (not (eqb role station))

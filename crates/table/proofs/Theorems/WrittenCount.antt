@@ -1,4 +1,4 @@
--- 01: the bytes-written number "is the frame's length, or eight times the timeouts" (Timeouts.antt), at most 34, or 256 for a clock step; "Bytes
+-- 01: the bytes-written number "is the frame's length, or eight times the timeouts" (Timeouts.antt), at most 37, or 256 for a clock step; "Bytes
 -- beyond those written stay as they were." Of any event, lent the buffer l: `written-count`. (That there are 32 records is the table's type.)
 -- Assumes nothing.
 use Prim.Native.Nat.{ℕ, _+_, _*_, _≤_}
@@ -52,8 +52,8 @@ reply-written Silent l h = at-front longest [] l (omega arith) (omega arith)
 reply-written (Send f) l h = by-bool (ltb (length l) longest)
     (λ e. let z : _≡_ {A = ℕ} 0 1 = cc (h e) in absurd (omega arith))
     (λ e.
-    let long : 34 ≤ length l = ltb-false (length l) 34 e in
-    let short : length (bytesOf f) ≤ 34 = omega (arith, bytes-length f, body-short (f .body)) in
+    let long : 37 ≤ length l = ltb-false (length l) 37 e in
+    let short : length (bytesOf f) ≤ 37 = omega (arith, bytes-length f, body-short (f .body)) in
     simp e (at-front longest (bytesOf f) l short (omega arith)))
 
 received-silent : (s : Settings) (t : List Record) (xs : List ℕ) (n : ℕ) → ltb n longest ≡ true → receivedOf s t xs n .reply ≡ Silent

@@ -1,4 +1,4 @@
-// The three calls over a table of 512 octets, as a host lends it; settings and answer by value.
+// The three calls over a table of 768 octets, as a host lends it; settings and answer by value.
 use crate::host::rows::clock;
 use crate::host::rows::find;
 use crate::host::rows::met;
@@ -33,7 +33,7 @@ ghost use Rattle.table.specs.declared.rules.event.Event.the-variants as 
 
 // A frame that was read.
 fn heard_at(s: Settings, table: &[u8], r: Reading) -> Change
-    requires { ⌜ length (now table) ≡ 512 ⌝ }
+    requires { ⌜ length (now table) ≡ 768 ⌝ }
     ensures { λ c. ⌜ metOf (recordsOf (now (table .entry))) c ≡ heardAt s (recordsOf (now (table .entry))) (addressesOf (recordsOf (now (table .entry)))) r ⌝ }
 {
     match r {
@@ -62,7 +62,7 @@ fn heard_at(s: Settings, table: &[u8], r: Reading) -> Change
 
 // A primitive, by what it asks of the whole table.
 fn asked_in(s: Settings, table: &[u8], o: Others, primitive: u8, address: u64, code: u16) -> Change
-    requires { ⌜ length (now table) ≡ 512 ⌝ }
+    requires { ⌜ length (now table) ≡ 768 ⌝ }
     ensures { λ c. ⌜ (o ≡ othersOf s (recordsOf (now (table .entry))) → metOf (recordsOf (now (table .entry))) c ≡ askedAt s (recordsOf (now (table .entry))) (addressesOf (recordsOf (now (table .entry)))) primitive address code) ⌝ }
 {
     let at = find(table, address);
@@ -85,7 +85,7 @@ pub fn receive(table: &mut [u8], s: Settings, frame: &[u8], out: &mut [u8]) -> A
     if out.len() < Frame::LONGEST {
         return Answer::refusal(1);
     }
-    if table.len() != 512 {
+    if table.len() != 768 {
         return Answer::refusal(2);
     }
     let v = survey(s, &*table);
@@ -113,7 +113,7 @@ pub fn ask(
     if out.len() < Frame::LONGEST {
         return Answer::refusal(1);
     }
-    if table.len() != 512 {
+    if table.len() != 768 {
         return Answer::refusal(2);
     }
     let v = survey(s, &*table);
@@ -135,7 +135,7 @@ pub fn pass(table: &mut [u8], s: Settings, step: u16, out: &mut [u8]) -> Answer
     if out.len() < 256 {
         return Answer::refusal(1);
     }
-    if table.len() != 512 {
+    if table.len() != 768 {
         return Answer::refusal(2);
     }
     let v = survey(s, &*table);

@@ -1,4 +1,4 @@
-// The table as a host lends it: 32 rows of 16 octets.
+// The table as a host lends it: 32 rows of 24 octets.
 use crate::rules::pass::put_report;
 use crate::rules::seat::Change;
 use crate::rules::seat::Found;
@@ -8,6 +8,9 @@ use octets::row::blank_at;
 use octets::row::put_row;
 use octets::row::row_at;
 use peer::association::parted;
+use peer::query::query_left;
+use peer::query::query_number;
+use peer::query::query_of;
 use peer::record::Record;
 use peer::record::exchange_number;
 use peer::record::exchange_of;
@@ -39,6 +42,8 @@ pub fn record_of(r: Row) -> Record
         exchange: exchange_of(r.exchange),
         left: r.left,
         hold: r.hold,
+        query: query_of(r.query, r.remaining),
+        identifier: r.identifier,
     }
 }
 
@@ -46,12 +51,16 @@ pub fn row_of(p: Record) -> Row
     ensures { λ r. ⌜ r ≡ rowOf p ⌝ }
 {
     let e = p.exchange;
+    let q = p.query;
     Row {
         address: p.address,
         hold: p.hold,
         left: p.left,
         state: p.state,
         exchange: exchange_number(e),
+        identifier: p.identifier,
+        remaining: query_left(q),
+        query: query_number(q) as u32,
     }
 }
 
@@ -60,7 +69,7 @@ pub fn look(table: &[u8], i: usize) -> Record
     ensures { λ p. ⌜ p ≡ getD (recordsOf (now (table .entry))) i freeOf ⌝ }
 {
     if i < 32 {
-        record_of(row_at(table, 16 * i))
+        record_of(row_at(table, 24 * i))
     } else {
         Record::free()
     }
@@ -68,25 +77,25 @@ pub fn look(table: &[u8], i: usize) -> Record
 
 // Stores a record at a place, where there is such a place.
 pub fn store(table: &mut [u8], i: usize, p: Record)
-    ensures { λ _. ⌜ now (table .exit) ≡ pick (ltb i 32) (rowIn (16 * i) (rowOf p) (now (table .entry))) (now (table .entry)) ⌝ }
+    ensures { λ _. ⌜ now (table .exit) ≡ pick (ltb i 32) (rowIn (24 * i) (rowOf p) (now (table .entry))) (now (table .entry)) ⌝ }
 {
     if i < 32 {
-        put_row(table, 16 * i, row_of(p));
+        put_row(table, 24 * i, row_of(p));
     }
 }
 
 // The lowest place with an address. Of 0: the lowest free place.
 pub(crate) fn find(table: &[u8], address: u64) -> Found
-    requires { ⌜ length (now table) ≡ 512 ⌝ }
+    requires { ⌜ length (now table) ≡ 768 ⌝ }
     ensures { λ r. ⌜ r ≡ findOf (addressesOf (recordsOf (now (table .entry)))) address ⌝ }
 {
     // Never so, by the contract. It tells the compiler the length: no row is tested for room.
-    if table.len() != 512 {
+    if table.len() != 768 {
         return Found::Nothing;
     }
     let mut i = 0;
     while i < 32 {
-        if address_in(table, 16 * i) == address {
+        if address_in(table, 24 * i) == address {
             return Found::At(i);
         }
         i += 1;
@@ -96,7 +105,7 @@ pub(crate) fn find(table: &[u8], address: u64) -> Found
 
 // The lowest free place, looked up only for a peer that has no record.
 pub(crate) fn vacancy(table: &[u8], at: Found) -> Found
-    requires { ⌜ length (now table) ≡ 512 ⌝ }
+    requires { ⌜ length (now table) ≡ 768 ⌝ }
     ensures { λ r. ⌜ r ≡ onFound at (findOf (addressesOf (recordsOf (now (table .entry)))) 0) (λ i. found.Nothing) ⌝ }
 {
     match at {
@@ -117,7 +126,7 @@ pub fn peer_at(table: &[u8], at: Found, address: u64) -> Record
 
 // Every record in State 3 or 4 goes to State 2.
 fn part_all(table: &mut [u8])
-    requires { ⌜ length (now table) ≡ 512 ⌝ }
+    requires { ⌜ length (now table) ≡ 768 ⌝ }
     ensures { λ _. ⌜ now (table .exit) ≡ octetsOf (map partedOf (recordsOf (now (table .entry)))) ⌝ }
 {
     let mut i = 0;
@@ -131,7 +140,7 @@ fn part_all(table: &mut [u8])
 
 // Stores a record at a place, and parts any other where it is so.
 fn stored(table: &mut [u8], i: usize, p: Record, sole: bool)
-    requires { ⌜ length (now table) ≡ 512 ⌝ }
+    requires { ⌜ length (now table) ≡ 768 ⌝ }
     ensures { λ _. ⌜ (isTable (now (table .entry)) ≡ true → now (table .exit) ≡ octetsOf (set (pick sole (map partedOf (recordsOf (now (table .entry)))) (recordsOf (now (table .entry)))) i p)) ⌝ }
 {
     if sole {
@@ -146,7 +155,7 @@ fn stored(table: &mut [u8], i: usize, p: Record, sole: bool)
 pub(crate) fn met(table: &mut [u8], c: Change)
     ensures { λ _. ⌜ (isTable (now (table .entry)) ≡ true → now (table .exit) ≡ octetsOf (metOf (recordsOf (now (table .entry))) c .table)) ⌝ }
 {
-    if table.len() != 512 {
+    if table.len() != 768 {
         return;
     }
     let place = c.place;
@@ -161,7 +170,7 @@ pub(crate) fn met(table: &mut [u8], c: Change)
 
 // A clock step at each place in turn: every time falls, and what ended is reported. Gives how many octets of reports were written.
 pub(crate) fn clock(s: Settings, table: &mut [u8], d: u16, out: &mut [u8]) -> u16
-    requires { ⌜ (length (now table) ≡ 512) × (256 ≤ length (now out)) ⌝ }
+    requires { ⌜ (length (now table) ≡ 768) × (256 ≤ length (now out)) ⌝ }
     ensures { λ r. ⌜ (r ≡ clockedOf s (recordsOf (now (table .entry))) d .written) × (now (table .exit) ≡ octetsOf (clockedOf s (recordsOf (now (table .entry))) d .table)) × (now (out .exit) ≡ sets (now (out .entry)) 0 (reportsOf s d 0 (recordsOf (now (table .entry))))) ⌝ }
 {
     let mut n = 0;
@@ -170,7 +179,7 @@ pub(crate) fn clock(s: Settings, table: &mut [u8], d: u16, out: &mut [u8]) -> u1
         let at = i;
         i += 1;
         // A free place has nothing to wait for.
-        if blank_at(&*table, 16 * at) {} else {
+        if blank_at(&*table, 24 * at) {} else {
             let p = look(&*table, at);
             let q = tick(s, p, d);
             n = put_report(&mut *out, n, at as u8, q.report, p.address);

@@ -4,16 +4,19 @@ use octets::field::octet_at;
 use octets::field::u16_at;
 use peer::settings::Settings;
 ghost use mathlib.Core.Path.{_≡_};
-ghost use Rattle.table.specs.Boundary.{editionIn, settingsIn, settingsLength};
+ghost use Rattle.table.specs.Boundary.{editionIn, maximumIn, retryIn, settingsIn, settingsLength};
 
-// Whether settings may have a length: 12, or 14 with edition and protection.
+// Whether settings may have a length: 12, 14 with edition and protection, or 18 with the times of a query too.
 pub fn settings_length(n: usize) -> bool
     ensures { λ r. ⌜ r ≡ settingsLength n ⌝ }
 {
     if n == 12 {
         return true;
     }
-    n == 14
+    if n == 14 {
+        return true;
+    }
+    n == 18
 }
 
 // The edition: the first, where none is given.
@@ -23,7 +26,21 @@ fn edition_in(s: &[u8]) -> u8
     if s.len() < 14 { 1 } else { octet_at(s, 12) }
 }
 
-// The settings in octets: role, own address, RSNA, two timeouts; edition, protection. Of another length: settings out of range, refused 2.
+// The times of a query: 201 and 1,000 TU, where none are given.
+fn retry_in(s: &[u8]) -> u16
+    ensures { λ r. ⌜ r ≡ retryIn (now (s .entry)) ⌝ }
+{
+    if s.len() < 18 { 201 } else { u16_at(s, 14) }
+}
+
+fn maximum_in(s: &[u8]) -> u16
+    ensures { λ r. ⌜ r ≡ maximumIn (now (s .entry)) ⌝ }
+{
+    if s.len() < 18 { 1000 } else { u16_at(s, 16) }
+}
+
+// The settings in octets: role, own address, RSNA, two timeouts; edition, protection; a query's retry time and maximum. Of another length:
+// settings out of range, refused 2.
 pub fn settings_in(s: &[u8]) -> Settings
     ensures { λ r. ⌜ r ≡ settingsIn (now (s .entry)) ⌝ }
 {
@@ -36,6 +53,8 @@ pub fn settings_in(s: &[u8]) -> Settings
             rsna: 0,
             edition: 0,
             protection: 0,
+            retry: 0,
+            maximum: 0,
         };
     }
     Settings {
@@ -46,5 +65,7 @@ pub fn settings_in(s: &[u8]) -> Settings
         rsna: octet_at(s, 7),
         edition: edition_in(s),
         protection: octet_at(s, 13),
+        retry: retry_in(s),
+        maximum: maximum_in(s),
     }
 }

@@ -6,10 +6,11 @@ use peer::settings::Settings;
 ghost use mathlib.Core.Path.{_≡_};
 ghost use mathlib.Core.Bool.{true, false, _&&_};
 ghost use lib.Dec.{leb};
-ghost use Rattle.peer.specs.Fit.{exchangeFits, recordFits};
+ghost use Rattle.peer.specs.Fit.{exchangeFits, queryFits, recordFits};
+ghost use Rattle.peer.specs.Query.{queryOf};
 ghost use Rattle.peer.specs.Record.{associates, exchangeOf, underWay};
 ghost use Rattle.peer.specs.Settings.{ap, station, settingsFit};
-ghost use Rattle.table.specs.Rows.{recordOf};
+ghost use Rattle.table.specs.Rows.{queryNumbered, recordOf, rowNumbered};
 
 // Whether a row is well formed by itself, and whether it has a (re)association under way.
 pub struct Standing {
@@ -82,10 +83,39 @@ fn station_standing(e: u8, state: u8, left: u16) -> Standing
     }
 }
 
+// A query, by its number and what is left of it: none in any row; else at an access point in State 4, and what runs has time left.
+fn query_standing(s: Settings, state: u8, query: u32, remaining: u16) -> bool
+    ensures { λ r. ⌜ r ≡ (queryNumbered query remaining && queryFits s state (queryOf query remaining)) ⌝ }
+{
+    // One test for most rows.
+    if query as u64 + remaining as u64 == 0 {
+        return true;
+    }
+    if s.role != Settings::AP {
+        return false;
+    }
+    if state != Record::STATE_4 {
+        return false;
+    }
+    if query == 3 {
+        return remaining == 0;
+    }
+    if query == 0 {
+        return false;
+    }
+    if 3 < query {
+        return false;
+    }
+    if remaining == 0 {
+        return false;
+    }
+    remaining <= s.maximum
+}
+
 // A row that is not free.
 pub(crate) fn row_standing(s: Settings, r: Row) -> Standing
     requires { ⌜ settingsFit s ≡ true ⌝ }
-    ensures { λ x. ⌜ (x .fit ≡ (leb (r .exchange) 9 && recordFits s (recordOf r))) × (x .fit ≡ true → x .associating ≡ associates (recordOf r)) ⌝ }
+    ensures { λ x. ⌜ (x .fit ≡ (rowNumbered r && recordFits s (recordOf r))) × (x .fit ≡ true → x .associating ≡ associates (recordOf r)) ⌝ }
 {
     if r.state < Record::STATE_1 {
         return unfit();
@@ -97,6 +127,9 @@ pub(crate) fn row_standing(s: Settings, r: Row) -> Standing
         return unfit();
     }
     if valid(r.address) {} else {
+        return unfit();
+    }
+    if query_standing(s, r.state, r.query, r.remaining) {} else {
         return unfit();
     }
     if s.role != Settings::AP {

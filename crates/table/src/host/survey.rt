@@ -55,7 +55,7 @@ fn unused_behind(table: &[u8], a: u64, at: usize) -> bool
 {
     let mut i = at + 1;
     while i < 32 {
-        if address_in(table, 16 * i) == a {
+        if address_in(table, 24 * i) == a {
             return false;
         }
         i += 1;
@@ -77,16 +77,16 @@ fn alone(table: &[u8], a: u64, at: usize, marked: bool) -> bool
 
 // How many places there are up to the last one in use.
 fn used(table: &[u8]) -> usize
-    requires { ⌜ length (now table) ≡ 512 ⌝ }
-    ensures { λ r. ⌜ (r ≤ 32) × ((i : ℕ) → r ≤ i → i < 32 → blankAt (16 * i) (now (table .entry)) ≡ true) ⌝ }
+    requires { ⌜ length (now table) ≡ 768 ⌝ }
+    ensures { λ r. ⌜ (r ≤ 32) × ((i : ℕ) → r ≤ i → i < 32 → blankAt (24 * i) (now (table .entry)) ≡ true) ⌝ }
 {
     // Never so, by the contract. It tells the compiler the length: no row is tested for room.
-    if table.len() != 512 {
+    if table.len() != 768 {
         return 0;
     }
     let mut i = 32;
     while 0 < i {
-        if blank_at(table, 16 * (i - 1)) {} else {
+        if blank_at(table, 24 * (i - 1)) {} else {
             return i;
         }
         i -= 1;
@@ -97,11 +97,11 @@ fn used(table: &[u8]) -> usize
 // Whether settings and table are well formed, and what is counted of the table. A row is compared with those behind it only where one of
 // them has its mark.
 pub(crate) fn survey(s: Settings, table: &[u8]) -> Seen
-    requires { ⌜ length (now table) ≡ 512 ⌝ }
+    requires { ⌜ length (now table) ≡ 768 ⌝ }
     ensures { λ r. ⌜ (r .well ≡ (numberedAt 32 0 (now (table .entry)) && wellFormed s (recordsOf (now (table .entry))))) × (r .well ≡ true → (r .associated ≡ associatedOf (recordsOf (now (table .entry)))) × (r .crowd ≡ crowdOf (recordsOf (now (table .entry))))) ⌝ }
 {
     // As in `used`.
-    if table.len() != 512 {
+    if table.len() != 768 {
         return ill();
     }
     if s.fit() {} else {
@@ -114,8 +114,8 @@ pub(crate) fn survey(s: Settings, table: &[u8]) -> Seen
     let mut i = used(table);
     while 0 < i {
         i -= 1;
-        if blank_at(table, 16 * i) {} else {
-            let r = row_at(table, 16 * i);
+        if blank_at(table, 24 * i) {} else {
+            let r = row_at(table, 24 * i);
             let x = row_standing(s, r);
             if x.fit {} else {
                 return ill();

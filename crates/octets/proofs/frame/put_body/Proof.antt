@@ -2,7 +2,7 @@
 -- Assumes nothing.
 use Rattle.octets.proofs.Stores.{then}
 use Rattle.octets.specs.Field.{octets}
-use Rattle.octets.specs.Frame.{bodyOf}
+use Rattle.octets.specs.Frame.{bodyOf, comebackElement}
 use borrow.Author.Needs.{needs}
 use mathlib.Core.Path.{refl}
 use Rattle.octets.proofs.frame.put_body.Statement.{statement}
@@ -62,6 +62,33 @@ enum-known-b-5 c = search needs
 put-u16-requires-11 : tie.Need-put-u16-requires-11
 put-u16-requires-11 c κs = search needs
 
+put-u16-requires-12 : tie.Need-put-u16-requires-12
+put-u16-requires-12 c κs = search needs
+
+put-u16-requires-13 : tie.Need-put-u16-requires-13
+put-u16-requires-13 c κs = search needs
+
+put-comeback-requires : tie.Need-put-comeback-requires
+put-comeback-requires c κs = search needs
+
+enum-known-b-6 : tie.Need-enum-known-b-6
+enum-known-b-6 c = search needs
+
+put-u16-requires-14 : tie.Need-put-u16-requires-14
+put-u16-requires-14 c κs = search needs
+
+enum-known-b-7 : tie.Need-enum-known-b-7
+enum-known-b-7 c = search needs
+
+put-octet-requires : tie.Need-put-octet-requires
+put-octet-requires c κs = search needs
+
+put-octet-requires-2 : tie.Need-put-octet-requires-2
+put-octet-requires-2 c κs = search needs
+
+put-u16-requires-15 : tie.Need-put-u16-requires-15
+put-u16-requires-15 c κs = search needs
+
 same-length : tie.Need-same-length
 same-length c = search needs
 
@@ -110,10 +137,35 @@ same-length-5 : tie.Need-same-length-5
 same-length-5 c = search needs
 
 returns-5 : tie.Need-returns-5
-unfolding octets bodyOf
+unfolding octets bodyOf comebackElement
 returns-5 c =
+    let p4 = c .before .before in
+    let p3 = p4 .before .before .before .before in
+    let p2 = p3 .before .before .before .before in
+    let p1 = p2 .before .before .before .before in
+    rw (p1 .before .before .before .b5 .given .1)
+    (refl, then (then (then (p1 .put-u1611 .ensures) (p2 .put-u1612 .ensures) refl) (p3 .put-u1613 .ensures) refl) (p4 .put-comeback .ensures) refl)
+
+same-length-6 : tie.Need-same-length-6
+same-length-6 c = search needs
+
+returns-6 : tie.Need-returns-6
+unfolding octets bodyOf
+returns-6 c =
     let p1 = c .before .before in
-    rw (p1 .before .before .before .b5 .given .1) (refl, (p1 .put-u1611 .ensures))
+    rw (p1 .before .before .before .b6 .given .1) (refl, (p1 .put-u1614 .ensures))
+
+same-length-7 : tie.Need-same-length-7
+same-length-7 c = search needs
+
+returns-7 : tie.Need-returns-7
+unfolding octets bodyOf
+returns-7 c =
+    let p3 = c .before .before in
+    let p2 = p3 .before .before .before .before in
+    let p1 = p2 .before .before .before .before in
+    rw (p1 .before .before .before .b7 .given .1)
+    (refl, then (then (p1 .put-octet .ensures) (p2 .put-octet2 .ensures) refl) (p3 .put-u1615 .ensures) refl)
 
 pub put-body-spec : {M : Type 1} → statement M
 put-body-spec =
@@ -137,6 +189,15 @@ put-body-spec =
     put-u16-requires-10
     enum-known-b-5
     put-u16-requires-11
+    put-u16-requires-12
+    put-u16-requires-13
+    put-comeback-requires
+    enum-known-b-6
+    put-u16-requires-14
+    enum-known-b-7
+    put-octet-requires
+    put-octet-requires-2
+    put-u16-requires-15
     same-length
     returns
     same-length-2
@@ -146,4 +207,8 @@ put-body-spec =
     same-length-4
     returns-4
     same-length-5
-    returns-5)
+    returns-5
+    same-length-6
+    returns-6
+    same-length-7
+    returns-7)

@@ -31,6 +31,9 @@ authentication-requires c κs = search needs
 u16-at-requires-2 : tie.Need-u16-at-requires-2
 u16-at-requires-2 c κs = search needs
 
+query-requires : tie.Need-query-requires
+query-requires c κs = search needs
+
 returns-2 : tie.Need-returns-2
 unfolding heardOf
 returns-2 c = search (tests, c .match .keys1, ← c .before .before .octet-at .ensures)
@@ -61,7 +64,11 @@ returns-8 c = search (tests, ← c .u16-at2 .ensures, c .before .match .keys7, �
 
 returns-9 : tie.Need-returns-9
 unfolding heardOf
-returns-9 c = search (tests, ← c .before .before .octet-at .ensures)
+returns-9 c = search (tests, ← c .query .ensures, c .before .match .keys8, ← c .before .before .before .octet-at .ensures)
+
+returns-10 : tie.Need-returns-10
+unfolding heardOf
+returns-10 c = search (tests, ← c .before .before .octet-at .ensures)
 
 pub read-spec : {M : Type 1} → statement M
 read-spec =
@@ -75,6 +82,7 @@ read-spec =
     u16-at-requires
     authentication-requires
     u16-at-requires-2
+    query-requires
     returns-2
     returns-3
     returns-4
@@ -82,4 +90,5 @@ read-spec =
     returns-6
     returns-7
     returns-8
-    returns-9)
+    returns-9
+    returns-10)

@@ -3,7 +3,7 @@
 use Prim.Native.Nat.{_+_}
 use Rattle.octets.proofs.Stores.{then}
 use Rattle.octets.specs.Field.{octets}
-use Rattle.octets.specs.Row.{rowIn, rowOctets}
+use Rattle.octets.specs.Row.{queryOctets, rowIn, rowOctets}
 use borrow.Author.Needs.{needs}
 use borrow.Author.Tests.{leb-true}
 use denote.Ref.{now}
@@ -17,42 +17,48 @@ has-row-requires : tie.Need-has-row-requires
 has-row-requires c κs = search needs
 
 returns : tie.Need-returns
-unfolding rowIn rowOctets octets
+unfolding rowIn rowOctets queryOctets octets
 returns c = rw (← c .before .has-row .ensures, c .if1 .left)
 
 put-u64-requires : tie.Need-put-u64-requires
-put-u64-requires c κs = omega (arith, leb-true (c .before .before .before .before .args .at + 16) (length (now (c .before .before .before .before .args .out))) (sym (c .before .before .has-row .ensures) ∙ c .before .if1 .taken))
+put-u64-requires c κs = omega (arith, leb-true (c .before .before .before .before .args .at + 24) (length (now (c .before .before .before .before .args .out))) (sym (c .before .before .has-row .ensures) ∙ c .before .if1 .taken))
 
 add-put-u32 : tie.Need-add-put-u32
-add-put-u32 c = omega (arith, leb-true (c .before .before .before .before .before .before .before .before .args .at + 16) (length (now (c .before .before .before .before .before .before .before .before .args .out))) (sym (c .before .before .before .before .before .before .has-row .ensures) ∙ c .before .before .before .before .before .if1 .taken))
+add-put-u32 c = omega (arith, leb-true (c .before .before .before .before .before .before .before .before .args .at + 24) (length (now (c .before .before .before .before .before .before .before .before .args .out))) (sym (c .before .before .before .before .before .before .has-row .ensures) ∙ c .before .before .before .before .before .if1 .taken))
 
 put-u32-requires : tie.Need-put-u32-requires
-put-u32-requires c κs = omega (arith, leb-true (c .before .before .before .before .before .before .before .before .args .at + 16) (length (now (c .before .before .before .before .before .before .before .before .args .out))) (sym (c .before .before .before .before .before .before .has-row .ensures) ∙ c .before .before .before .before .before .if1 .taken))
+put-u32-requires c κs = omega (arith, leb-true (c .before .before .before .before .before .before .before .before .args .at + 24) (length (now (c .before .before .before .before .before .before .before .before .args .out))) (sym (c .before .before .before .before .before .before .has-row .ensures) ∙ c .before .before .before .before .before .if1 .taken))
 
 add-put-u16 : tie.Need-add-put-u16
-add-put-u16 c = omega (arith, leb-true (c .before .before .before .before .before .before .before .before .before .before .before .before .args .at + 16) (length (now (c .before .before .before .before .before .before .before .before .before .before .before .before .args .out))) (sym (c .before .before .before .before .before .before .before .before .before .before .has-row .ensures) ∙ c .before .before .before .before .before .before .before .before .before .if1 .taken))
+add-put-u16 c = omega (arith, leb-true (c .before .before .before .before .before .before .before .before .before .before .before .before .args .at + 24) (length (now (c .before .before .before .before .before .before .before .before .before .before .before .before .args .out))) (sym (c .before .before .before .before .before .before .before .before .before .before .has-row .ensures) ∙ c .before .before .before .before .before .before .before .before .before .if1 .taken))
 
 put-u16-requires : tie.Need-put-u16-requires
-put-u16-requires c κs = omega (arith, leb-true (c .before .before .before .before .before .before .before .before .before .before .before .before .args .at + 16) (length (now (c .before .before .before .before .before .before .before .before .before .before .before .before .args .out))) (sym (c .before .before .before .before .before .before .before .before .before .before .has-row .ensures) ∙ c .before .before .before .before .before .before .before .before .before .if1 .taken))
+put-u16-requires c κs = omega (arith, leb-true (c .before .before .before .before .before .before .before .before .before .before .before .before .args .at + 24) (length (now (c .before .before .before .before .before .before .before .before .before .before .before .before .args .out))) (sym (c .before .before .before .before .before .before .before .before .before .before .has-row .ensures) ∙ c .before .before .before .before .before .before .before .before .before .if1 .taken))
 
 add-put-octet : tie.Need-add-put-octet
-add-put-octet c = omega (arith, leb-true (c .before .before .before .before .before .before .before .before .before .before .before .before .before .before .before .before .args .at + 16) (length (now (c .before .before .before .before .before .before .before .before .before .before .before .before .before .before .before .before .args .out))) (sym (c .before .before .before .before .before .before .before .before .before .before .before .before .before .before .has-row .ensures) ∙ c .before .before .before .before .before .before .before .before .before .before .before .before .before .if1 .taken))
+add-put-octet c = omega (arith, leb-true (c .before .before .before .before .before .before .before .before .before .before .before .before .before .before .before .before .args .at + 24) (length (now (c .before .before .before .before .before .before .before .before .before .before .before .before .before .before .before .before .args .out))) (sym (c .before .before .before .before .before .before .before .before .before .before .before .before .before .before .has-row .ensures) ∙ c .before .before .before .before .before .before .before .before .before .before .before .before .before .if1 .taken))
 
 put-octet-requires : tie.Need-put-octet-requires
-put-octet-requires c κs = omega (arith, leb-true (c .before .before .before .before .before .before .before .before .before .before .before .before .before .before .before .before .args .at + 16) (length (now (c .before .before .before .before .before .before .before .before .before .before .before .before .before .before .before .before .args .out))) (sym (c .before .before .before .before .before .before .before .before .before .before .before .before .before .before .has-row .ensures) ∙ c .before .before .before .before .before .before .before .before .before .before .before .before .before .if1 .taken))
+put-octet-requires c κs = omega (arith, leb-true (c .before .before .before .before .before .before .before .before .before .before .before .before .before .before .before .before .args .at + 24) (length (now (c .before .before .before .before .before .before .before .before .before .before .before .before .before .before .before .before .args .out))) (sym (c .before .before .before .before .before .before .before .before .before .before .before .before .before .before .has-row .ensures) ∙ c .before .before .before .before .before .before .before .before .before .before .before .before .before .if1 .taken))
 
 add-put-octet-2 : tie.Need-add-put-octet-2
-add-put-octet-2 c = omega (arith, leb-true (c .before .before .before .before .before .before .before .before .before .before .before .before .before .before .before .before .before .before .before .before .args .at + 16) (length (now (c .before .before .before .before .before .before .before .before .before .before .before .before .before .before .before .before .before .before .before .before .args .out))) (sym (c .before .before .before .before .before .before .before .before .before .before .before .before .before .before .before .before .before .before .has-row .ensures) ∙ c .before .before .before .before .before .before .before .before .before .before .before .before .before .before .before .before .before .if1 .taken))
+add-put-octet-2 c = omega (arith, leb-true (c .before .before .before .before .before .before .before .before .before .before .before .before .before .before .before .before .before .before .before .before .args .at + 24) (length (now (c .before .before .before .before .before .before .before .before .before .before .before .before .before .before .before .before .before .before .before .before .args .out))) (sym (c .before .before .before .before .before .before .before .before .before .before .before .before .before .before .before .before .before .before .has-row .ensures) ∙ c .before .before .before .before .before .before .before .before .before .before .before .before .before .before .before .before .before .if1 .taken))
 
 put-octet-requires-2 : tie.Need-put-octet-requires-2
-put-octet-requires-2 c κs = omega (arith, leb-true (c .before .before .before .before .before .before .before .before .before .before .before .before .before .before .before .before .before .before .before .before .args .at + 16) (length (now (c .before .before .before .before .before .before .before .before .before .before .before .before .before .before .before .before .before .before .before .before .args .out))) (sym (c .before .before .before .before .before .before .before .before .before .before .before .before .before .before .before .before .before .before .has-row .ensures) ∙ c .before .before .before .before .before .before .before .before .before .before .before .before .before .before .before .before .before .if1 .taken))
+put-octet-requires-2 c κs = omega (arith, leb-true (c .before .before .before .before .before .before .before .before .before .before .before .before .before .before .before .before .before .before .before .before .args .at + 24) (length (now (c .before .before .before .before .before .before .before .before .before .before .before .before .before .before .before .before .before .before .before .before .args .out))) (sym (c .before .before .before .before .before .before .before .before .before .before .before .before .before .before .before .before .before .before .has-row .ensures) ∙ c .before .before .before .before .before .before .before .before .before .before .before .before .before .before .before .before .before .if1 .taken))
+
+add-put-query : tie.Need-add-put-query
+add-put-query c = omega (arith, leb-true (c .before .before .before .before .before .before .before .before .before .before .before .before .before .before .before .before .before .before .before .before .before .before .before .before .args .at + 24) (length (now (c .before .before .before .before .before .before .before .before .before .before .before .before .before .before .before .before .before .before .before .before .before .before .before .before .args .out))) (sym (c .before .before .before .before .before .before .before .before .before .before .before .before .before .before .before .before .before .before .before .before .before .before .has-row .ensures) ∙ c .before .before .before .before .before .before .before .before .before .before .before .before .before .before .before .before .before .before .before .before .before .if1 .taken))
+
+put-query-requires : tie.Need-put-query-requires
+put-query-requires c κs = omega (arith, leb-true (c .before .before .before .before .before .before .before .before .before .before .before .before .before .before .before .before .before .before .before .before .before .before .before .before .args .at + 24) (length (now (c .before .before .before .before .before .before .before .before .before .before .before .before .before .before .before .before .before .before .before .before .before .before .before .before .args .out))) (sym (c .before .before .before .before .before .before .before .before .before .before .before .before .before .before .before .before .before .before .before .before .before .before .has-row .ensures) ∙ c .before .before .before .before .before .before .before .before .before .before .before .before .before .before .before .before .before .before .before .before .before .if1 .taken))
 
 same-length : tie.Need-same-length
 same-length c = search needs
 
 returns-2 : tie.Need-returns-2
-unfolding rowIn rowOctets octets
-returns-2 c = rw (← c .before .before .before .before .before .before .before .before .before .before .before .before .before .before .before .before .before .before .before .before .before .has-row .ensures, c .before .before .before .before .before .before .before .before .before .before .before .before .before .before .before .before .before .before .before .before .if1 .taken) (then (then (then (then (c .before .before .before .before .before .before .before .before .before .before .before .before .before .before .before .before .before .before .put-u64 .ensures) (c .before .before .before .before .before .before .before .before .before .before .before .before .before .before .put-u32 .ensures) refl) (c .before .before .before .before .before .before .before .before .before .before .put-u16 .ensures) refl) (c .before .before .before .before .before .before .put-octet .ensures) refl) (c .before .before .put-octet2 .ensures) refl .is)
+unfolding rowIn rowOctets queryOctets octets
+returns-2 c = rw (← c .before .before .before .before .before .before .before .before .before .before .before .before .before .before .before .before .before .before .before .before .before .before .before .before .before .has-row .ensures, c .before .before .before .before .before .before .before .before .before .before .before .before .before .before .before .before .before .before .before .before .before .before .before .before .if1 .taken) (then (then (then (then (then (c .before .before .before .before .before .before .before .before .before .before .before .before .before .before .before .before .before .before .before .before .before .before .put-u64 .ensures) (c .before .before .before .before .before .before .before .before .before .before .before .before .before .before .before .before .before .before .put-u32 .ensures) refl) (c .before .before .before .before .before .before .before .before .before .before .before .before .before .before .put-u16 .ensures) refl) (c .before .before .before .before .before .before .before .before .before .before .put-octet .ensures) refl) (c .before .before .before .before .before .before .put-octet2 .ensures) refl) (c .before .before .put-query .ensures) refl .is)
 
 pub put-row-spec : {M : Type 1} → statement M
 put-row-spec =
@@ -69,5 +75,7 @@ put-row-spec =
     put-octet-requires
     add-put-octet-2
     put-octet-requires-2
+    add-put-query
+    put-query-requires
     same-length
     returns-2)

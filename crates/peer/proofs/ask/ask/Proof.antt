@@ -1,5 +1,12 @@
--- `peer::ask::ask` meets its contract: each answer by the tests that led to it and what its callees ensure.
+-- `peer::ask::ask` meets its contract: each arm by its number, the last past the ten others.
 -- Assumes nothing.
+use Prim.Native.Nat.{ℕ}
+use mathlib.Core.Path.{_≡_}
+use borrow.Author.Tests.{ne-eqb}
+use Rattle.peer.specs.Challenge.{inquiredOf}
+use Rattle.peer.specs.declared.record.Record.{Record}
+use Rattle.peer.specs.declared.refuse.Others.{Others}
+use Rattle.peer.specs.declared.settings.Settings.{Settings}
 use Rattle.octets.proofs.Branch.{tests}
 use Rattle.peer.specs.Ask.{askOf}
 use borrow.Author.Needs.{needs}
@@ -36,9 +43,12 @@ secure-requires c κs = search needs
 report-requires : tie.Need-report-requires
 report-requires c κs = search needs
 
+inquired-requires : tie.Need-inquired-requires
+inquired-requires c κs = search needs
+
 returns : tie.Need-returns
 unfolding askOf
-returns c = search (tests, ← c .started .ensures, c .before .match .keys1)
+returns c = search tests
 
 returns-2 : tie.Need-returns-2
 unfolding askOf
@@ -74,7 +84,19 @@ returns-9 c = search (tests, ← c .secure .ensures, c .before .match .keys9)
 
 returns-10 : tie.Need-returns-10
 unfolding askOf
-returns-10 c = search (tests, ← c .report .ensures)
+returns-10 c = search (tests, ← c .report .ensures, c .before .match .keys10)
+
+-- past the ten others
+last :
+    (s : Settings) (aid : ℕ) (p : Record) (o : Others) (q code : ℕ) → (q ≡ 1 → ⊥) → (q ≡ 2 → ⊥) → (q ≡ 3 → ⊥) → (q ≡ 4 → ⊥) → (q ≡ 5 → ⊥) → (q ≡ 6 → ⊥) → (q ≡ 7 → ⊥) → (q ≡ 8 → ⊥) → (q ≡ 9 → ⊥) → (q ≡ 10 → ⊥) → askOf s aid p o q code ≡ inquiredOf s p
+unfolding askOf
+last s aid p o q code n1 n2 n3 n4 n5 n6 n7 n8 n9 n10 =
+    rw (ne-eqb q 1 n1, ne-eqb q 2 n2, ne-eqb q 3 n3, ne-eqb q 4 n4, ne-eqb q 5 n5, ne-eqb q 6 n6, ne-eqb q 7 n7, ne-eqb q 8 n8, ne-eqb q 9 n9, ne-eqb q 10 n10)
+
+returns-11 : tie.Need-returns-11
+returns-11 c =
+    let others = c .before .match .rest in
+    rw (last _ _ _ _ (c .before .before .args .primitive) _ (others .0 .0 .0 .0 .0 .0 .0 .0 .0 .1) (others .0 .0 .0 .0 .0 .0 .0 .0 .1) (others .0 .0 .0 .0 .0 .0 .0 .1) (others .0 .0 .0 .0 .0 .0 .1) (others .0 .0 .0 .0 .0 .1) (others .0 .0 .0 .0 .1) (others .0 .0 .0 .1) (others .0 .0 .1) (others .0 .1) (others .1)) (c .inquired .ensures)
 
 pub ask-spec : {M : Type 1} → statement M
 ask-spec =
@@ -90,6 +112,7 @@ ask-spec =
     respond-requires-2
     secure-requires
     report-requires
+    inquired-requires
     returns
     returns-2
     returns-3
@@ -99,4 +122,5 @@ ask-spec =
     returns-7
     returns-8
     returns-9
-    returns-10)
+    returns-10
+    returns-11)

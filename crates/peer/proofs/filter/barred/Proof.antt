@@ -46,29 +46,49 @@ enum-told-5 c = search needs
 filtered-requires-5 : tie.Need-filtered-requires-5
 filtered-requires-5 c κs = search needs
 
+enum-told-6 : tie.Need-enum-told-6
+enum-told-6 c = search needs
+
+filtered-requires-6 : tie.Need-filtered-requires-6
+filtered-requires-6 c κs = search needs
+
+enum-told-7 : tie.Need-enum-told-7
+enum-told-7 c = search needs
+
+filtered-requires-7 : tie.Need-filtered-requires-7
+filtered-requires-7 c κs = search needs
+
 returns-2 : tie.Need-returns-2
 unfolding barredOf
-returns-2 c = search (tests, ← c .filtered .ensures, c .before .enum-told .given .1, c .before .before .before .if1 .left)
+returns-2 c = search (tests, ← c .filtered .ensures, c .before .before .before .if1 .left, c .before .enum-told .given .1)
 
 returns-3 : tie.Need-returns-3
 unfolding barredOf
-returns-3 c = search (tests, ← c .filtered2 .ensures, c .before .enum-told2 .given .1, c .before .before .before .if1 .left)
+returns-3 c = search (tests, ← c .filtered2 .ensures, c .before .before .before .if1 .left, c .before .enum-told2 .given .1)
 
 returns-4 : tie.Need-returns-4
 unfolding barredOf
-returns-4 c = search (tests, ← c .filtered3 .ensures, c .before .enum-told3 .given .1, c .before .before .before .if1 .left)
+returns-4 c = search (tests, ← c .filtered3 .ensures, c .before .before .before .if1 .left, c .before .enum-told3 .given .1)
 
 returns-5 : tie.Need-returns-5
 unfolding barredOf
-returns-5 c = search (tests, ← c .filtered4 .ensures, c .before .enum-told4 .given .1, c .before .before .before .if1 .left)
+returns-5 c = search (tests, ← c .filtered4 .ensures, c .before .before .before .if1 .left, c .before .enum-told4 .given .1)
 
 returns-6 : tie.Need-returns-6
 unfolding barredOf
-returns-6 c = search (tests, ← c .request-barred .ensures, c .before .before .h .given .1, c .before .before .before .before .if1 .left)
+returns-6 c = search (tests, ← c .request-barred .ensures, c .before .before .before .before .if1 .left, c .before .before .h .given .1)
 
 returns-7 : tie.Need-returns-7
 unfolding barredOf
-returns-7 c = search (tests, ← c .filtered5 .ensures, c .before .enum-told5 .given .1, c .before .before .before .if1 .left)
+returns-7 c = search (tests, ← c .filtered5 .ensures, c .before .before .before .if1 .left, c .before .enum-told5 .given .1)
+
+returns-8 : tie.Need-returns-8
+unfolding barredOf
+returns-8 c = search (tests, ← c .filtered6 .ensures, c .before .before .before .if1 .left, c .before .enum-told6 .given .1)
+
+returns-9 : tie.Need-returns-9
+unfolding barredOf
+returns-9 c = search (tests, ← c .filtered7 .ensures, c .before .before .before .if1 .left, c .before .enum-told7 .given .1)
 
 pub barred-spec : {M : Type 1} → statement M
 barred-spec =
@@ -87,9 +107,15 @@ barred-spec =
     request-barred-requires
     enum-told-5
     filtered-requires-5
+    enum-told-6
+    filtered-requires-6
+    enum-told-7
+    filtered-requires-7
     returns-2
     returns-3
     returns-4
     returns-5
     returns-6
-    returns-7)
+    returns-7
+    returns-8
+    returns-9)

@@ -23,21 +23,28 @@ valid-requires c κs = search needs
 
 returns-4 : tie.Need-returns-4
 unfolding recordFits
-returns-4 c = search (tests, c .if4 .left, ← c .before .valid .ensures)
+returns-4 c = search (tests, ← c .before .valid .ensures, c .if4 .left, c .before .before .if3 .left, c .before .before .before .before .if2 .left, c .before .before .before .before .before .if1 .left)
 
 hold-fits-requires : tie.Need-hold-fits-requires
 hold-fits-requires c κs = search needs
 
 returns-5 : tie.Need-returns-5
 unfolding recordFits
-returns-5 c = search (tests, c .if5 .left, ← c .before .hold-fits .ensures, c .before .before .if4 .taken, ← c .before .before .before .valid .ensures)
+returns-5 c = search (tests, ← c .before .hold-fits .ensures, ← c .before .before .before .valid .ensures, c .if5 .left, c .before .before .if4 .taken, c .before .before .before .before .if3 .left, c .before .before .before .before .before .before .if2 .left, c .before .before .before .before .before .before .before .if1 .left)
 
 exchange-fits-requires : tie.Need-exchange-fits-requires
 exchange-fits-requires c κs = search needs
 
 returns-6 : tie.Need-returns-6
 unfolding recordFits
-returns-6 c = search (tests, ← c .exchange-fits .ensures, c .before .if5 .taken, ← c .before .before .hold-fits .ensures, c .before .before .before .if4 .taken, ← c .before .before .before .before .valid .ensures)
+returns-6 c = search (tests, ← c .before .exchange-fits .ensures, ← c .before .before .before .hold-fits .ensures, ← c .before .before .before .before .before .valid .ensures, c .if6 .left, c .before .before .if5 .taken, c .before .before .before .before .if4 .taken, c .before .before .before .before .before .before .if3 .left, c .before .before .before .before .before .before .before .before .if2 .left, c .before .before .before .before .before .before .before .before .before .if1 .left)
+
+query-allowed-requires : tie.Need-query-allowed-requires
+query-allowed-requires c κs = search needs
+
+returns-7 : tie.Need-returns-7
+unfolding recordFits
+returns-7 c = search (tests, ← c .query-allowed .ensures, ← c .before .before .exchange-fits .ensures, ← c .before .before .before .before .hold-fits .ensures, ← c .before .before .before .before .before .before .valid .ensures, c .before .if6 .taken, c .before .before .before .if5 .taken, c .before .before .before .before .before .if4 .taken, c .before .before .before .before .before .before .before .if3 .left, c .before .before .before .before .before .before .before .before .before .if2 .left, c .before .before .before .before .before .before .before .before .before .before .if1 .left)
 
 pub record-fits-spec : {M : Type 1} → statement M
 record-fits-spec =
@@ -51,4 +58,6 @@ record-fits-spec =
     hold-fits-requires
     returns-5
     exchange-fits-requires
-    returns-6)
+    returns-6
+    query-allowed-requires
+    returns-7)

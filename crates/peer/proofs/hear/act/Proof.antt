@@ -1,4 +1,4 @@
--- `peer::hear::act` meets its contract: each arm by its case.
+-- `peer::hear::act` meets its contract: each answer by the tests that led to it and what its callees ensure.
 -- Assumes nothing.
 use Rattle.octets.proofs.Branch.{tests}
 use borrow.Author.Needs.{needs}
@@ -41,6 +41,18 @@ enum-known-h-5 c = search needs
 response-heard-requires : tie.Need-response-heard-requires
 response-heard-requires c κs = search needs
 
+enum-known-h-6 : tie.Need-enum-known-h-6
+enum-known-h-6 c = search needs
+
+query-request-heard-requires : tie.Need-query-request-heard-requires
+query-request-heard-requires c κs = search needs
+
+enum-known-h-7 : tie.Need-enum-known-h-7
+enum-known-h-7 c = search needs
+
+query-response-heard-requires : tie.Need-query-response-heard-requires
+query-response-heard-requires c κs = search needs
+
 returns : tie.Need-returns
 returns c = search (tests, ← c .still .ensures, c .before .enum-told .given .1)
 
@@ -59,6 +71,12 @@ returns-5 c = search (tests, ← c .request-heard .ensures, c .before .before .h
 returns-6 : tie.Need-returns-6
 returns-6 c = search (tests, ← c .response-heard .ensures, c .before .before .h5 .given .1)
 
+returns-7 : tie.Need-returns-7
+returns-7 c = search (tests, ← c .query-request-heard .ensures, c .before .before .h6 .given .1)
+
+returns-8 : tie.Need-returns-8
+returns-8 c = search (tests, ← c .query-response-heard .ensures, c .before .before .h7 .given .1)
+
 pub act-spec : {M : Type 1} → statement M
 act-spec =
     tie.close
@@ -75,9 +93,15 @@ act-spec =
     request-heard-requires
     enum-known-h-5
     response-heard-requires
+    enum-known-h-6
+    query-request-heard-requires
+    enum-known-h-7
+    query-response-heard-requires
     returns
     returns-2
     returns-3
     returns-4
     returns-5
-    returns-6)
+    returns-6
+    returns-7
+    returns-8)

@@ -22,6 +22,12 @@ enum-told-5 c = search needs
 enum-told-6 : tie.Need-enum-told-6
 enum-told-6 c = search needs
 
+enum-told-7 : tie.Need-enum-told-7
+enum-told-7 c = search needs
+
+enum-told-8 : tie.Need-enum-told-8
+enum-told-8 c = search needs
+
 returns : tie.Need-returns
 returns c = search needs
 
@@ -40,6 +46,12 @@ returns-5 c = λ e. cc e
 returns-6 : tie.Need-returns-6
 returns-6 c = λ e. cc e
 
+returns-7 : tie.Need-returns-7
+returns-7 c = λ e. cc e
+
+returns-8 : tie.Need-returns-8
+returns-8 c = λ e. cc e
+
 pub is-other-spec : {M : Type 1} → statement M
 is-other-spec =
     tie.close
@@ -50,9 +62,13 @@ is-other-spec =
     enum-told-4
     enum-told-5
     enum-told-6
+    enum-told-7
+    enum-told-8
     returns
     returns-2
     returns-3
     returns-4
     returns-5
-    returns-6)
+    returns-6
+    returns-7
+    returns-8)

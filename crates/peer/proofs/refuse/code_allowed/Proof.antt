@@ -7,7 +7,7 @@ use Rattle.peer.proofs.refuse.code_allowed.Tie as tie
 
 returns : tie.Need-returns
 unfolding codeAllowed
-returns c = search (tests, c .match .keys1)
+returns c = search tests
 
 returns-2 : tie.Need-returns-2
 unfolding codeAllowed
@@ -47,7 +47,11 @@ returns-10 c = search (tests, c .match .keys10)
 
 returns-11 : tie.Need-returns-11
 unfolding codeAllowed
-returns-11 c = search tests
+returns-11 c = search (tests, c .match .keys11)
+
+returns-12 : tie.Need-returns-12
+unfolding codeAllowed
+returns-12 c = search tests
 
 pub code-allowed-spec : {M : Type 1} → statement M
 code-allowed-spec =
@@ -63,4 +67,5 @@ code-allowed-spec =
     returns-8
     returns-9
     returns-10
-    returns-11)
+    returns-11
+    returns-12)

@@ -21,6 +21,9 @@ asked-requires-3 c κs = search needs
 awaiting-requires : tie.Need-awaiting-requires
 awaiting-requires c κs = search needs
 
+is-due-requires : tie.Need-is-due-requires
+is-due-requires c κs = search needs
+
 returns : tie.Need-returns
 unfolding mismatchOf
 returns c = search (tests, ← c .asked .ensures, c .before .match .keys1)
@@ -47,7 +50,15 @@ returns-6 c = search (tests, ← c .awaiting .ensures, c .before .match .keys6)
 
 returns-7 : tie.Need-returns-7
 unfolding mismatchOf
-returns-7 c = search tests
+returns-7 c = search (tests, ← c .before .is-due .ensures, c .if1 .taken, c .before .before .match .keys7)
+
+returns-8 : tie.Need-returns-8
+unfolding mismatchOf
+returns-8 c = search (tests, ← c .before .is-due .ensures, c .if1 .left, c .before .before .match .keys7)
+
+returns-9 : tie.Need-returns-9
+unfolding mismatchOf
+returns-9 c = search tests
 
 pub mismatch-spec : {M : Type 1} → statement M
 mismatch-spec =
@@ -58,10 +69,13 @@ mismatch-spec =
     asked-requires-2
     asked-requires-3
     awaiting-requires
+    is-due-requires
     returns
     returns-2
     returns-3
     returns-4
     returns-5
     returns-6
-    returns-7)
+    returns-7
+    returns-8
+    returns-9)

@@ -7,7 +7,7 @@ use Rattle.peer.proofs.refuse.role_allowed.Tie as tie
 
 returns : tie.Need-returns
 unfolding roleAllowed
-returns c = search (tests, c .match .keys1)
+returns c = search tests
 
 returns-2 : tie.Need-returns-2
 unfolding roleAllowed
@@ -35,9 +35,22 @@ returns-7 c = search (tests, c .match .keys7)
 
 returns-8 : tie.Need-returns-8
 unfolding roleAllowed
-returns-8 c = search tests
+returns-8 c = search (tests, c .match .keys8)
+
+returns-9 : tie.Need-returns-9
+unfolding roleAllowed
+returns-9 c = search tests
 
 pub role-allowed-spec : {M : Type 1} → statement M
 role-allowed-spec =
     tie.close
-    (tie.spec returns returns-2 returns-3 returns-4 returns-5 returns-6 returns-7 returns-8)
+    (tie.spec
+    returns
+    returns-2
+    returns-3
+    returns-4
+    returns-5
+    returns-6
+    returns-7
+    returns-8
+    returns-9)

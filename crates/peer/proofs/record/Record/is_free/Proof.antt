@@ -22,13 +22,34 @@ returns-4 : tie.Need-returns-4
 unfolding isFree
 returns-4 c = search tests
 
+returns-5 : tie.Need-returns-5
+unfolding isFree
+returns-5 c = search tests
+
+query-number-requires : tie.Need-query-number-requires
+query-number-requires c κs = search needs
+
+returns-6 : tie.Need-returns-6
+unfolding isFree
+returns-6 c = search (tests, ← c .before .query-number .ensures, c .if6 .taken, c .before .before .if5 .left, c .before .before .before .before .if4 .left, c .before .before .before .before .before .before .if3 .left, c .before .before .before .before .before .before .before .before .if2 .left, c .before .before .before .before .before .before .before .before .before .before .if1 .left)
+
 under-way-requires : tie.Need-under-way-requires
 under-way-requires c κs = search needs
 
-returns-5 : tie.Need-returns-5
+returns-7 : tie.Need-returns-7
 unfolding isFree
-returns-5 c = search (tests, ← c .under-way .ensures)
+returns-7 c = search (tests, ← c .under-way .ensures, ← c .before .before .query-number .ensures, c .before .if6 .left, c .before .before .before .if5 .left, c .before .before .before .before .before .if4 .left, c .before .before .before .before .before .before .before .if3 .left, c .before .before .before .before .before .before .before .before .before .if2 .left, c .before .before .before .before .before .before .before .before .before .before .before .if1 .left)
 
 pub is-free-spec : {M : Type 1} → statement M
 is-free-spec =
-    tie.close (tie.spec returns returns-2 returns-3 returns-4 under-way-requires returns-5)
+    tie.close
+    (tie.spec
+    returns
+    returns-2
+    returns-3
+    returns-4
+    returns-5
+    query-number-requires
+    returns-6
+    under-way-requires
+    returns-7)

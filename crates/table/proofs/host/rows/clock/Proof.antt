@@ -16,7 +16,7 @@ use Rattle.table.proofs.host.rows.clock.Statement.{statement}
 use Rattle.table.proofs.host.rows.clock.Tie as tie
 
 abbrev Inv-loop : tie.InvT-loop
-Inv-loop s table₀ d out₀ n₀ i₀ table out n i = (length table₀ ≡ 512) × (256 ≤ length out₀) × Octets table₀ × Rewritten (afterOf s d) table₀ i table × Told s d out₀ (recordsOf table₀) out n i
+Inv-loop s table₀ d out₀ n₀ i₀ table out n i = (length table₀ ≡ 768) × (256 ≤ length out₀) × Octets table₀ × Rewritten (afterOf s d) table₀ i table × Told s d out₀ (recordsOf table₀) out n i
 
 abbrev μ-loop : tie.MeasureT-loop
 μ-loop s table₀ d out₀ n₀ i₀ table out n i = 32 - i

@@ -12,7 +12,7 @@ use Rattle.table.proofs.host.rows.part_all.Statement.{statement}
 use Rattle.table.proofs.host.rows.part_all.Tie as tie
 
 abbrev Inv-loop : tie.InvT-loop
-Inv-loop table₀ i₀ table i = (length table₀ ≡ 512) × (i ≤ 32) × Rewritten partedOf table₀ i table
+Inv-loop table₀ i₀ table i = (length table₀ ≡ 768) × (i ≤ 32) × Rewritten partedOf table₀ i table
 
 abbrev μ-loop : tie.MeasureT-loop
 μ-loop table₀ i₀ table i = 32 - i

@@ -8,9 +8,12 @@ use Rattle.table.proofs.host.rows.record_of.Tie as tie
 exchange-of-requires : tie.Need-exchange-of-requires
 exchange-of-requires c κs = tt
 
+query-of-requires : tie.Need-query-of-requires
+query-of-requires c κs = tt
+
 returns : tie.Need-returns
 unfolding recordOf
-returns c = rw (c .exchange-of .ensures)
+returns c = rw (c .before .exchange-of .ensures, c .query-of .ensures)
 
 pub record-of-spec : {M : Type 1} → statement M
-record-of-spec = tie.close (tie.spec exchange-of-requires returns)
+record-of-spec = tie.close (tie.spec exchange-of-requires query-of-requires returns)

@@ -33,9 +33,15 @@ edition-in-requires c κs = search needs
 octet-at-requires-3 : tie.Need-octet-at-requires-3
 octet-at-requires-3 c κs = search needs
 
+retry-in-requires : tie.Need-retry-in-requires
+retry-in-requires c κs = search needs
+
+maximum-in-requires : tie.Need-maximum-in-requires
+maximum-in-requires c κs = search needs
+
 returns-2 : tie.Need-returns-2
 unfolding settingsIn
-returns-2 c = rw (← c .before .before .before .before .before .before .before .before .settings-length .ensures, c .before .before .before .before .before .before .before .if1 .taken, ← c .before .before .before .before .before .before .address-at .ensures, ← c .before .before .before .before .before .u16-at .ensures, ← c .before .before .before .before .u16-at2 .ensures, ← c .before .before .before .octet-at .ensures, ← c .before .before .octet-at2 .ensures, ← c .before .edition-in .ensures, ← c .octet-at3 .ensures)
+returns-2 c = rw (← c .before .before .before .before .before .before .before .before .before .before .settings-length .ensures, c .before .before .before .before .before .before .before .before .before .if1 .taken, ← c .before .before .before .before .before .before .before .before .address-at .ensures, ← c .before .before .before .before .before .before .before .u16-at .ensures, ← c .before .before .before .before .before .before .u16-at2 .ensures, ← c .before .before .before .before .before .octet-at .ensures, ← c .before .before .before .before .octet-at2 .ensures, ← c .before .before .before .edition-in .ensures, ← c .before .before .octet-at3 .ensures, ← c .before .retry-in .ensures, ← c .maximum-in .ensures)
 
 pub settings-in-spec : {M : Type 1} → statement M
 settings-in-spec =
@@ -50,4 +56,6 @@ settings-in-spec =
     octet-at-requires-2
     edition-in-requires
     octet-at-requires-3
+    retry-in-requires
+    maximum-in-requires
     returns-2)

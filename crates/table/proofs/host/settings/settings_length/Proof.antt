@@ -13,5 +13,9 @@ returns-2 : tie.Need-returns-2
 unfolding settingsLength
 returns-2 c = search tests
 
+returns-3 : tie.Need-returns-3
+unfolding settingsLength
+returns-3 c = search tests
+
 pub settings-length-spec : {M : Type 1} → statement M
-settings-length-spec = tie.close (tie.spec returns returns-2)
+settings-length-spec = tie.close (tie.spec returns returns-2 returns-3)

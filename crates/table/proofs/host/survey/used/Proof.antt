@@ -13,7 +13,7 @@ use Rattle.table.proofs.host.survey.used.Statement.{statement}
 use Rattle.table.proofs.host.survey.used.Tie as tie
 
 abbrev Inv-loop : tie.InvT-loop
-Inv-loop table i₀ i = (length table ≡ 512) × (i ≤ 32) × ((j : ℕ) → i ≤ j → j < 32 → blankAt (16 * j) table ≡ true)
+Inv-loop table i₀ i = (length table ≡ 768) × (i ≤ 32) × ((j : ℕ) → i ≤ j → j < 32 → blankAt (24 * j) table ≡ true)
 
 abbrev μ-loop : tie.MeasureT-loop
 μ-loop table i₀ i = i
@@ -43,7 +43,7 @@ loop-less : tie.Need-loop-less Inv-loop μ-loop
 loop-less c = search needs
 
 loop-again : tie.Need-loop-again Inv-loop μ-loop
-loop-again c = (c .before .before .before .loop .inv .0, omega (arith, c .before .before .before .loop .inv .1), one-down (λ j. blankAt (16 * j) (now (c .before .before .before .before .before .before .args .table)) ≡ true) (c .before .before .before .loop .i) (c .before .before .loop-test .taken) (sym (c .before .blank-at .ensures) ∙ c .if2 .taken) (c .before .before .before .loop .inv .2))
+loop-again c = (c .before .before .before .loop .inv .0, omega (arith, c .before .before .before .loop .inv .1), one-down (λ j. blankAt (24 * j) (now (c .before .before .before .before .before .before .args .table)) ≡ true) (c .before .before .before .loop .i) (c .before .before .loop-test .taken) (sym (c .before .blank-at .ensures) ∙ c .if2 .taken) (c .before .before .before .loop .inv .2))
 
 returns-3 : tie.Need-returns-3 Inv-loop μ-loop
 returns-3 c = (omega arith, λ j l h. c .before .loop .inv .2 j (omega (arith, c .loop-test .left)) h)

@@ -1,0 +1,181 @@
+-- 02, K5, "Forged rejoin requests", in the whole table, at an AP with edition 2 and protection:
+--     forged-moves-nothing  no (re)association request of a peer in State 4 gives an indication, replaces an exchange or moves a state, the peer's or
+--                           another's, unless a query to the peer has timed out
+--     let-in, then-none     after a query that timed out one request passes, and each later one moves nothing
+-- Assumes nothing.
+use Prim.Native.Nat.{ℕ, _<_}
+use mathlib.Core.Path.{_≡_, refl}
+use mathlib.Core.Bool.{Bool, true, false, not}
+use mathlib.Core.List.{List, [], _∷_, map}
+use native.Mathlib.Omega.{arith}
+use lib.Dec.{eqb, ltb}
+use lib.ListN.{getD, length, replicate, set}
+use lib.Seq.{getD-set-same, set-getD}
+use Rattle.octets.proofs.Branch.{pick-both}
+use Rattle.octets.specs.Address.{groupOf, validOf}
+use Rattle.octets.specs.Class.{classOf, isPublicAction}
+use Rattle.octets.specs.Element.{brokenOf, isResponse}
+use Rattle.octets.specs.Frame.{longest}
+use Rattle.octets.specs.Heard.{heardOf}
+use Rattle.octets.specs.Shape.{isBare, leastManagement, leastOf, shapeOf}
+use Rattle.octets.specs.declared.class.FrameClass.the-variants as class
+use Rattle.octets.specs.declared.class.FrameClass.{FrameClass}
+use Rattle.octets.specs.declared.heard.Heard.the-variants as heard
+use Rattle.octets.specs.declared.heard.Kind.the-variants as kind
+use Rattle.octets.specs.declared.heard.Kind.{Kind}
+use Rattle.peer.proofs.Queries.{Guarded, Stays, Unmoved, guarded, joined, one-passes, site, unmoved}
+use Rattle.peer.specs.Filter.{passesOf}
+use Rattle.peer.specs.Fit.{holdFits, placeFits, queryAllowed, queryStands, recordFits}
+use Rattle.peer.specs.Hear.{hearOf}
+use Rattle.peer.specs.Moves.{dsNone}
+use Rattle.peer.specs.Query.{isTimedOut}
+use Rattle.peer.specs.Record.{freeOf, freshOf, isFree, queriedOf}
+use Rattle.peer.specs.Settings.{queryTimesFit, settingsFit, timeFits}
+use Rattle.peer.specs.Turn.{indicationOf}
+use Rattle.peer.specs.declared.query.Query.the-variants as query
+use Rattle.peer.specs.declared.query.Query.{Query}
+use Rattle.peer.specs.declared.record.Record.{Record}
+use Rattle.peer.specs.declared.settings.Settings.{Settings}
+use Rattle.peer.specs.declared.turn.Turn.{Turn}
+use Rattle.table.specs.Answer.{refusedOf, settledOf, steppedOf}
+use Rattle.table.specs.Fit.{aloneIn, sparseOf, wellFormed}
+use Rattle.table.specs.Places.{addressesOf, allTails, findOf, firstFrom}
+use Rattle.table.specs.Read.{forUs, readFrom, readFull, readOf}
+use Rattle.table.specs.Receive.{heardFrom, receivedOf}
+use Rattle.table.specs.Seat.{peerOf, seatedOf}
+use Rattle.table.specs.Step.{stepOf}
+use Rattle.table.specs.declared.rules.answer.Met.{Met}
+use Rattle.table.specs.declared.rules.answer.Stepped.{Stepped}
+use Rattle.table.specs.declared.rules.event.Event.the-variants as event
+use Rattle.table.specs.declared.rules.read.Reading.the-variants.{From}
+use Rattle.table.specs.declared.rules.seat.Found.the-variants.{At, Nothing}
+use Rattle.table.specs.declared.rules.seat.Found.{Found}
+use Rattle.table.proofs.Order.OwnRecord.{all-at, find-at, hear-alone, wf-distinct, wf-fits}
+use Rattle.table.proofs.Passes.Lists.{get-map, map-set}
+use Rattle.table.proofs.Theorems.PlacesKept.{place-kept}
+use Rattle.table.proofs.Theorems.StepKeeps.{step-keeps-at-ap}
+
+-- A record without its query.
+abbrev pub core : Record → Record
+core p = queriedOf p query.None 0
+
+stays-core : {p q : Record} → Stays p q → core q ≡ core p
+unfolding queriedOf
+stays-core h = λ i. record {
+  address = h .address i;
+  state = h .state i;
+  exchange = h .exchange i;
+  left = h .left i;
+  hold = h .hold i;
+  query = query.None;
+  identifier = 0;
+}
+
+-- Of all records none is changed but in its query, and nothing is told to our own side or to the distribution system.
+abbrev pub Calm : List Record → Stepped → Type 0
+Calm t r = (map core (r .table) ≡ map core t) × (r .answer .notice ≡ 0) × (r .answer .ds ≡ dsNone)
+
+module _ (s : Settings) (t : List Record) (a : ℕ) (group : Bool) (k : FrameClass) (kind : Kind) (current : ℕ) where
+  abbrev turnAt : ℕ → Turn
+  turnAt i = hearOf s (getD t i freeOf) k group (heard.Request kind current)
+
+  -- a step whose turn moves nothing
+  calm-step :
+      (xs : List ℕ) (n : ℕ) → readOf (s .own) xs ≡ From a group k (heard.Request kind current)
+      → (i : ℕ) → findOf (addressesOf t) a ≡ At i → Unmoved (getD t i freeOf) (turnAt i)
+      → Calm t (stepOf s t event.Frame xs n)
+  unfolding steppedOf receivedOf refusedOf settledOf heardFrom seatedOf
+  calm-step xs n reads i found u =
+      pick-both (λ (m : Met). Calm t (steppedOf m n)) (ltb n longest) (refl, refl, refl)
+      (pick-both (λ (m : Met). Calm t (steppedOf m n)) (not (wellFormed s t)) (refl, refl, refl)
+      (rw (reads, found) (
+        rw (u .sole, map-set core t i (turnAt i .peer), stays-core (u .stays), ← get-map core t i freeOf) (set-getD (map core t) i (core freeOf)),
+        rw (u .told),
+        u .ds,
+      )))
+
+  pub forged-moves-nothing :
+      Guarded s → (xs : List ℕ) (n : ℕ) → readOf (s .own) xs ≡ From a group k (heard.Request kind current)
+      → peerOf t (findOf (addressesOf t) a) a .state ≡ 4 → isTimedOut (peerOf t (findOf (addressesOf t) a) a .query) ≡ false
+      → Calm t (stepOf s t event.Frame xs n)
+  unfolding freshOf
+  forged-moves-nothing g xs n reads = go (findOf (addressesOf t) a) refl
+    where
+      go : (at : Found) → findOf (addressesOf t) a ≡ at → peerOf t at a .state ≡ 4 → isTimedOut (peerOf t at a .query) ≡ false → Calm t (stepOf s t event.Frame xs n)
+      go Nothing e four waits = absurd (omega (arith, four))
+      go (At i) e four waits = calm-step xs n reads i e (unmoved s g (getD t i freeOf) four waits k group kind current)
+
+-- ---- after a query that timed out: the record at place i of a well-formed table
+
+module _ (s : Settings) (g : Guarded s) (t : List Record) (w : wellFormed s t ≡ true) (l : length t ≡ 32) (i : ℕ) (below : i < 32) (some : eqb (getD t i freeOf .address) 0 ≡ false) (four : getD t i freeOf .state ≡ 4) (out : isTimedOut (getD t i freeOf .query) ≡ true) where
+  abbrev named : ℕ
+  named = getD t i freeOf .address
+
+  -- "After kind 5 the next request passes": one to our own address, of a class that passes, in a buffer that takes a frame
+  module _ (k : FrameClass) (kind : Kind) (current : ℕ) (through : passesOf k 4 ≡ true) (xs : List ℕ) (n : ℕ) (room : ltb n longest ≡ false) (reads : readOf (s .own) xs ≡ From named false k (heard.Request kind current)) where
+    abbrev turn : Turn
+    turn = hearOf s (getD t i freeOf) k false (heard.Request kind current)
+
+    found : findOf (addressesOf t) named ≡ At i
+    found = find-at t i (wf-distinct s t w) (rw l below) some
+
+    abbrev after : Stepped
+    after = stepOf s t event.Frame xs n
+
+    after-is : after .table ≡ set t i (turn .peer)
+    unfolding steppedOf receivedOf heardFrom seatedOf
+    after-is =
+        let alone = hear-alone s (getD t i freeOf) (g .role) (all-at (λ p. placeFits s p) t i freeOf (wf-fits s t w) (rw l below)) k false (heard.Request kind current) in
+        rw (room, w, reads, found, alone)
+
+    pub let-in : after .answer .notice ≡ indicationOf kind
+    unfolding steppedOf receivedOf heardFrom seatedOf
+    let-in = rw (room, w, reads, found) (one-passes s g (getD t i freeOf) four out k kind current through .0)
+
+    -- "and clears the mark"
+    pub then-none :
+        (group : Bool) (k′ : FrameClass) (kind′ : Kind) (current′ : ℕ) (xs′ : List ℕ) (n′ : ℕ) → readOf (s .own) xs′ ≡ From named group k′ (heard.Request kind′ current′)
+        → Calm (after .table) (stepOf s (after .table) event.Frame xs′ n′)
+    then-none group k′ kind′ current′ xs′ n′ reads′ =
+        let well = step-keeps-at-ap s (g .role) t w l event.Frame xs n in
+        let same : getD (after .table) i freeOf .address ≡ named = place-kept s t event.Frame xs n refl i some in
+        let again = find-at (after .table) i (wf-distinct s (after .table) (well .0)) (rw (well .1) below) (rw same some) in
+        let is : getD (after .table) i freeOf ≡ turn .peer = rw after-is (getD-set-same t i (turn .peer) freeOf (rw l below)) in
+        calm-step s (after .table) named group k′ kind′ current′ xs′ n′ reads′ i (rw same at again)
+        (rw is (one-passes s g (getD t i freeOf) four out k kind current through .3 k′ group kind′ current′))
+
+-- ---- The hypotheses are met: an access point, 02, with the peer 04 in State 4 at place 0, and an association request in the peer's name.
+
+abbrev pub with : Query → List Record
+with q = joined q 6 ∷ replicate 31 freeOf
+
+abbrev pub request : List ℕ
+request =
+    0 ∷ 0 ∷ 0 ∷ 0 ∷ 2 ∷ 0 ∷ 0 ∷ 0 ∷ 0 ∷ 0 ∷ 4 ∷ 0 ∷ 0 ∷ 0 ∷ 0 ∷ 0 ∷ 2 ∷ 0 ∷ 0 ∷ 0 ∷ 0 ∷ 0 ∷ 0 ∷ 0 ∷ 0x01 ∷ 0 ∷ 10 ∷ 0 ∷ []
+
+reads-request : readOf (site .own) request ≡ From 4 false class.Two (heard.Request kind.Association 0)
+unfolding validOf groupOf classOf isPublicAction isResponse brokenOf heardOf leastManagement isBare leastOf shapeOf forUs readFrom readFull readOf
+reads-request = refl
+
+-- without a query, and with one that runs
+first-calm : Calm (with query.None) (stepOf site (with query.None) event.Frame request 37)
+unfolding firstFrom
+first-calm = forged-moves-nothing site (with query.None) 4 false class.Two kind.Association 0 guarded request 37 reads-request refl refl
+
+second-calm : Calm (with (query.Running 3 false)) (stepOf site (with (query.Running 3 false)) event.Frame request 37)
+unfolding firstFrom
+second-calm = forged-moves-nothing site (with (query.Running 3 false)) 4 false class.Two kind.Association 0 guarded request 37 reads-request refl refl
+
+-- with the mark: it is let in
+marked-well : wellFormed site (with query.TimedOut) ≡ true
+unfolding wellFormed settingsFit queryTimesFit timeFits validOf allTails placeFits isFree recordFits holdFits queryAllowed queryStands aloneIn sparseOf
+marked-well = refl
+
+third-let-in : stepOf site (with query.TimedOut) event.Frame request 37 .answer .notice ≡ 5
+third-let-in =
+    let-in site guarded (with query.TimedOut) marked-well refl 0 (omega arith) refl refl refl class.Two kind.Association 0 refl request 37 refl reads-request
+
+fourth-calm : Calm (stepOf site (with query.TimedOut) event.Frame request 37 .table) (stepOf site (stepOf site (with query.TimedOut) event.Frame request 37 .table) event.Frame request 37)
+fourth-calm =
+    then-none site guarded (with query.TimedOut) marked-well refl 0 (omega arith) refl refl refl class.Two kind.Association 0 refl request 37 refl reads-request
+    false class.Two kind.Association 0 request 37 reads-request
