@@ -131,10 +131,14 @@ fn part_all(table: &mut [u8])
 {
     let mut i = 0;
     while i < 32 {
-        let p = look(&*table, i);
-        let q = parted(p);
-        store(&mut *table, i, q);
+        let at = i;
         i += 1;
+        // A free place stays free.
+        if blank_at(&*table, 24 * at) {} else {
+            let p = look(&*table, at);
+            let q = parted(p);
+            store(&mut *table, at, q);
+        }
     }
 }
 

@@ -1,24 +1,41 @@
 -- `table::host::rows::part_all` meets its contract: the places passed hold what they must, the others what they held.
 -- Assumes nothing.
 use Prim.Native.Nat.{_-_, _≤_}
+use Rattle.octets.proofs.RowTrip.{Octets}
 use Rattle.peer.specs.Association.{partedOf}
-use Rattle.table.proofs.Octets.RowStores.{Rewritten, record-unread, rewritten-all, rewritten-length, rewritten-more, rewritten-none}
+use Rattle.table.proofs.Octets.RowStores.{Rewritten, record-unread, rewritten-all, rewritten-free, rewritten-length, rewritten-more, rewritten-none}
 use borrow.Author.Needs.{needs}
 use borrow.Author.Tests.{lt-ltb}
 use lib.ListN.{length}
-use mathlib.Core.Path.{_∙_, _≡_}
+use mathlib.Core.Path.{_∙_, _≡_, refl, sym}
 use native.Mathlib.Omega.{arith}
 use Rattle.table.proofs.host.rows.part_all.Statement.{statement}
 use Rattle.table.proofs.host.rows.part_all.Tie as tie
 
 abbrev Inv-loop : tie.InvT-loop
-Inv-loop table₀ i₀ table i = (length table₀ ≡ 768) × (i ≤ 32) × Rewritten partedOf table₀ i table
+Inv-loop table₀ i₀ table i = (length table₀ ≡ 768) × (i ≤ 32) × Octets table₀ × Rewritten partedOf table₀ i table
 
 abbrev μ-loop : tie.MeasureT-loop
 μ-loop table₀ i₀ table i = 32 - i
 
 loop-holds : tie.Need-loop-holds Inv-loop μ-loop
-loop-holds c = (c .before .pre, search needs, rewritten-none partedOf _)
+loop-holds c = (c .before .pre, search needs, (λ k. c .slice-known .given k .fits), rewritten-none partedOf _)
+
+add-i : tie.Need-add-i Inv-loop μ-loop
+add-i c = search needs
+
+mul-blank-at : tie.Need-mul-blank-at Inv-loop μ-loop
+mul-blank-at c = omega (arith, c .before .loop-test .taken)
+
+blank-at-requires : tie.Need-blank-at-requires Inv-loop μ-loop
+blank-at-requires c κs = tt
+
+loop-less : tie.Need-loop-less Inv-loop μ-loop
+loop-less c = search needs
+
+loop-again : tie.Need-loop-again Inv-loop μ-loop
+unfolding partedOf
+loop-again c = (c .before .before .before .before .loop .inv .0, omega (arith, c .before .before .before .loop-test .taken), c .before .before .before .before .loop .inv .2, rewritten-free partedOf _ (c .before .before .before .before .loop .inv .0) _ _ (c .before .before .before .loop-test .taken) (c .before .before .before .before .loop .inv .3) (c .before .before .before .before .loop .inv .2) (sym (c .before .blank-at .ensures) ∙ c .if1 .taken) refl)
 
 look-requires : tie.Need-look-requires Inv-loop μ-loop
 look-requires c κs = tt
@@ -29,20 +46,17 @@ parted-requires c κs = tt
 store-requires : tie.Need-store-requires Inv-loop μ-loop
 store-requires c κs = tt
 
-add-i : tie.Need-add-i Inv-loop μ-loop
-add-i c = search needs
+loop-less-2 : tie.Need-loop-less-2 Inv-loop μ-loop
+loop-less-2 c = search needs
 
-loop-less : tie.Need-loop-less Inv-loop μ-loop
-loop-less c = search needs
-
-loop-again : tie.Need-loop-again Inv-loop μ-loop
-loop-again c = (c .before .before .before .before .before .before .before .before .loop .inv .0, omega (arith, c .before .before .before .before .before .before .before .loop-test .taken), c .before .before .store .ensures ∙ rw (lt-ltb _ _ (c .before .before .before .before .before .before .before .loop-test .taken)) (rewritten-more partedOf _ (c .before .before .before .before .before .before .before .before .loop .inv .0) _ _ (c .before .before .before .before .before .before .before .loop-test .taken) (c .before .before .before .before .before .before .before .before .loop .inv .2) _ (c .before .before .before .before .parted .ensures ∙ rw (c .before .before .before .before .before .look .ensures, record-unread partedOf _ (c .before .before .before .before .before .before .before .before .loop .inv .0) _ _ (c .before .before .before .before .before .before .before .loop-test .taken) (c .before .before .before .before .before .before .before .before .loop .inv .2)))))
+loop-again-2 : tie.Need-loop-again-2 Inv-loop μ-loop
+loop-again-2 c = (c .before .before .before .before .before .before .before .before .before .before .before .loop .inv .0, omega (arith, c .before .before .before .before .before .before .before .before .before .before .loop-test .taken), c .before .before .before .before .before .before .before .before .before .before .before .loop .inv .2, c .before .before .store .ensures ∙ rw (lt-ltb _ _ (c .before .before .before .before .before .before .before .before .before .before .loop-test .taken)) (rewritten-more partedOf _ (c .before .before .before .before .before .before .before .before .before .before .before .loop .inv .0) _ _ (c .before .before .before .before .before .before .before .before .before .before .loop-test .taken) (c .before .before .before .before .before .before .before .before .before .before .before .loop .inv .3) _ (c .before .before .before .before .parted .ensures ∙ rw (c .before .before .before .before .before .look .ensures, record-unread partedOf _ (c .before .before .before .before .before .before .before .before .before .before .before .loop .inv .0) _ _ (c .before .before .before .before .before .before .before .before .before .before .loop-test .taken) (c .before .before .before .before .before .before .before .before .before .before .before .loop .inv .3)))))
 
 same-length : tie.Need-same-length Inv-loop μ-loop
-same-length c = rewritten-length partedOf _ (c .before .loop .inv .0) _ _ (c .before .loop .inv .1) (c .before .loop .inv .2)
+same-length c = rewritten-length partedOf _ (c .before .loop .inv .0) _ _ (c .before .loop .inv .1) (c .before .loop .inv .3)
 
 returns : tie.Need-returns Inv-loop μ-loop
-returns c = rewritten-all partedOf _ (c .before .loop .inv .0) _ _ (c .before .loop .inv .1) (c .loop-test .left) (c .before .loop .inv .2)
+returns c = rewritten-all partedOf _ (c .before .loop .inv .0) _ _ (c .before .loop .inv .1) (c .loop-test .left) (c .before .loop .inv .3)
 
 pub part-all-spec : {M : Type 1} → statement M
 part-all-spec =
@@ -51,11 +65,15 @@ part-all-spec =
     Inv-loop
     μ-loop
     loop-holds
+    add-i
+    mul-blank-at
+    blank-at-requires
+    loop-less
+    loop-again
     look-requires
     parted-requires
     store-requires
-    add-i
-    loop-less
-    loop-again
+    loop-less-2
+    loop-again-2
     same-length
     returns)
