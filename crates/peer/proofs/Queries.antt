@@ -116,8 +116,8 @@ module _ (s : Settings) (g : Guarded s) (p : Record) (four : p .state ≡ 4) (wa
 
 -- ---- after a query that timed out
 
--- "After kind 5 the next request passes and clears the mark": of that request there is an indication, and its exchange is asked; each later one is
--- met by a query, and moves nothing.
+-- "After kind 5 the next request passes and clears the mark": of that request there is an indication, and its exchange is asked; the one after it
+-- is met by a query, and moves nothing. However many come then: `exactly-one` in QueryRuns.
 module _ (s : Settings) (g : Guarded s) (p : Record) (four : p .state ≡ 4) (out : isTimedOut (p .query) ≡ true) where
   let-through : isChallenged s p ≡ false
   unfolding isChallenged
@@ -130,7 +130,7 @@ module _ (s : Settings) (g : Guarded s) (p : Record) (four : p .state ≡ 4) (ou
   cleared query.TimedOut h = refl
 
   -- where its class lets it through and it is sent to our own address
-  passes : (k : FrameClass) (kind : Kind) (current : ℕ) → passesOf k 4 ≡ true → hearOf s p k false (heard.Request kind current) ≡ requestedOf s (passedOf p) kind current
+  pub passes : (k : FrameClass) (kind : Kind) (current : ℕ) → passesOf k 4 ≡ true → hearOf s p k false (heard.Request kind current) ≡ requestedOf s (passedOf p) kind current
   unfolding hearOf requestHeard
   passes k kind current through = let here : passesOf k (p .state) ≡ true = rw four through in rw (here, let-through, g .role)
 

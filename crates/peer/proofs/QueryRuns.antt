@@ -1,9 +1,10 @@
 -- 02, K5, "Forged rejoin requests": a peer whose queries are each answered before the maximum stays as it is, through any number of requests in
--- its name (`answered-stays`), at an access point with edition 2 and protection.
+-- its name (`answered-stays`), at an access point with edition 2 and protection; and after a query that timed out one request passes, then none
+-- of any number (`exactly-one`).
 -- Assumes nothing.
 use Prim.Native.Nat.{ℕ, _-_}
 use mathlib.Core.Path.{_≡_, refl, sym, _∙_}
-use mathlib.Core.Bool.{Bool, false, not, _&&_}
+use mathlib.Core.Bool.{Bool, true, false, not, _&&_}
 use mathlib.Core.List.{List, [], _∷_}
 use native.Mathlib.Omega.{arith}
 use lib.Dec.{eqb, leb}
@@ -15,13 +16,14 @@ use Rattle.octets.specs.declared.heard.Kind.the-variants.{Association, Reassoci
 use Rattle.octets.specs.declared.heard.Kind.{Kind}
 use Rattle.peer.specs.Ask.{askOf}
 use Rattle.peer.specs.Association.{requestHeard}
-use Rattle.peer.specs.Challenge.{challengedOf, inquiredOf, isChallenged, queryResponseHeard, queryingOf}
+use Rattle.peer.specs.Authentication.{requestedOf}
+use Rattle.peer.specs.Challenge.{challengedOf, inquiredOf, isChallenged, passedOf, queryResponseHeard, queryingOf}
 use Rattle.peer.specs.Filter.{passesOf}
 use Rattle.peer.specs.Hear.{hearOf}
 use Rattle.peer.specs.Query.{isRunning, isTimedOut, queryIn, queryReport, queryTimed, reaches, runningOf, runningReport, runningTimed, sentQuery, steppedOf}
 use Rattle.peer.specs.Record.{changedOf, queriedOf}
 use Rattle.peer.specs.Tick.{freedOf, queriedTimed, reportedOf, tickOf, timedOf}
-use Rattle.peer.specs.Turn.{repliedOf, stillOf, turnOf}
+use Rattle.peer.specs.Turn.{begunOf, repliedOf, stillOf, turnOf}
 use Rattle.peer.specs.declared.query.Query.the-variants as query
 use Rattle.peer.specs.declared.query.Query.{Query}
 use Rattle.peer.specs.declared.record.Record.{Record}
@@ -29,7 +31,7 @@ use Rattle.peer.specs.declared.refuse.Others.{Others}
 use Rattle.peer.specs.declared.settings.Settings.{Settings}
 use Rattle.peer.specs.declared.turn.Turn.{Turn}
 use Rattle.peer.proofs.Fits.{wrong}
-use Rattle.peer.proofs.Queries.{Guarded, Stays, guarded, joined, same, site, unmoved}
+use Rattle.peer.proofs.Queries.{Guarded, Stays, guarded, joined, one-passes, passes, same, site, unmoved}
 
 -- What comes to such a peer: a request in its name; its own answer to the query; primitive 11; a clock step.
 pub data Tried : Type 0 where
@@ -130,6 +132,22 @@ module _ (s : Settings) (g : Guarded s) where
         hold = b .hold ∙ a .0 .hold;
       }
 
+  -- a request that passes leaves such a record
+  let-in-quiet :
+      (p : Record) → p .state ≡ 4 → p .hold ≡ 0 → isTimedOut (p .query) ≡ true → (k : FrameClass) (kind : Kind) (current : ℕ) → passesOf k 4 ≡ true
+      → Quiet (hearOf s p k false (heard.Request kind current) .peer)
+  unfolding requestedOf passedOf queriedOf begunOf changedOf turnOf
+  let-in-quiet p four free out k kind current through =
+      let is = passes s g p four out k kind current through in
+      record { four = rw is four; idle = rw is refl; free = rw is free; waits = rw (one-passes s g p four out k kind current through .2) refl }
+
+  -- "After kind 5 the next request passes and clears the mark": until a query has timed out again, no later one moves what that one left.
+  pub exactly-one :
+      (p : Record) → p .state ≡ 4 → p .hold ≡ 0 → isTimedOut (p .query) ≡ true → (k : FrameClass) (kind : Kind) (current : ℕ) → passesOf k 4 ≡ true
+      → (es : List Tried) → InTime s (hearOf s p k false (heard.Request kind current) .peer) es
+      → Stays (hearOf s p k false (heard.Request kind current) .peer) (runOf s (hearOf s p k false (heard.Request kind current) .peer) es)
+  exactly-one p four free out k kind current through es = answered-stays _ (let-in-quiet p four free out k kind current through) es
+
 -- ---- The hypotheses are met: two queries, each answered, the second after its request was sent again; the peer stays as it was.
 
 abbrev tried : List Tried
@@ -148,6 +166,16 @@ tried-stays = answered-stays site guarded (joined query.None 0) (record { four =
 tried-ends : runOf site (joined query.None 0) tried ≡ joined query.None 2
 unfolding runOf hearOf requestHeard isChallenged challengedOf queryingOf queriedOf runningOf steppedOf turnOf queryResponseHeard askOf inquiredOf tickOf timedOf queriedTimed reportedOf freedOf changedOf queryIn runningReport runningTimed reaches
 tried-ends = refl
+
+-- after one that timed out a request passes, and two more do not
+abbrev let-in : Record
+let-in = hearOf site (joined query.TimedOut 1) class.Two false (heard.Request Reassociation 6) .peer
+
+then-none : Stays let-in (runOf site let-in (request class.Two false Association 0 ∷ request class.Two false Reassociation 6 ∷ []))
+unfolding InTime
+then-none =
+    exactly-one site guarded (joined query.TimedOut 1) refl refl refl class.Two Reassociation 6 refl
+    (request class.Two false Association 0 ∷ request class.Two false Reassociation 6 ∷ []) (tt, (tt, tt))
 
 -- unanswered it times out
 unanswered : runOf site (joined query.None 0) (request class.Two false Association 0 ∷ send ∷ step 1000 ∷ []) ≡ joined query.TimedOut 1

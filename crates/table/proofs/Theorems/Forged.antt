@@ -1,7 +1,8 @@
 -- 02, K5, "Forged rejoin requests", in the whole table, at an AP with edition 2 and protection:
 --     forged-moves-nothing  no (re)association request of a peer in State 4 gives an indication, replaces an exchange or moves a state, the peer's or
 --                           another's, unless a query to the peer has timed out
---     let-in, then-none     after a query that timed out one request passes, and each later one moves nothing
+--     let-in, then-none     after a query that timed out one request passes, and the one after it moves nothing (at one peer, any
+--                           number: peer/proofs/QueryRuns.antt, `exactly-one`)
 -- Assumes nothing.
 use Prim.Native.Nat.{ℕ, _<_}
 use mathlib.Core.Path.{_≡_, refl}
