@@ -6,7 +6,7 @@
  *
  *     static peer_table table;                                       // all zero: the empty table
  *     static const peer_settings ap = { PEER_AP, { 2, 0, 0, 0, 0, 0x0a }, 0, 100, 100, PEER_EDITION_1, 0,
- *                                       PEER_QUERY_RETRY_USUAL, PEER_QUERY_MAXIMUM_USUAL };
+ *                                       PEER_QUERY_RETRY_USUAL, PEER_QUERY_MAXIMUM_USUAL, { 0 } };
  *     uint8_t out[PEER_OUT_LEAST];
  *     peer_answer a = peer_receive(&table, &ap, frame, frame_octets, out, sizeof out);
  *     if (a.written > 0)
@@ -20,8 +20,9 @@
  * What each call is lent
  *   table    read and written. Any contents are allowed: what is not well formed is refusal 2. A copy of its octets may be stored and
  *            brought back, on any processor.
- *   settings read only. What is out of range is refusal 2, an edition or a query's time that was left 0 too, whatever the role. A host from
- *            before there were editions or queries may go on with 12 or 14 octets in the calls of peer_table_octets.h.
+ *   settings read only. What is out of range is refusal 2, an edition or a query's time that was left 0 too, whatever the role, and in an ad
+ *            hoc network the network's address. A host from before there were editions, queries or ad hoc networks may go on with 12, 14 or 18
+ *            octets in the calls of peer_table_octets.h.
  *   frame    read only, without FCS, any contents, any length; over 4,096 octets is refusal 3.
  *   out      written from its first octet; only the first `written` octets change. At least 37 octets, 256 for peer_pass; more is fine.
  * No pointer may be null, also with length 0. Each points to as many octets as its length says; nothing beyond is read or written. They
@@ -33,11 +34,13 @@
  *
  * What the host must do itself
  *   - Answer each indication, by PEER_.._RESPONSE with any status, and report whether the peer acknowledged the answer to a
- *     (re)association (PEER_TRANSMIT_REPORT). An AP's places do not age: a peer that only asked keeps its place until it is answered, an
- *     authenticated one until it is deauthenticated. A place is freed by the next clock step.
- *   - Count time: the library has no clock. peer_pass is told how many TU passed; a station's timeouts and holds and an AP's queries run by
- *     it alone.
- *   - Ask again: nothing is repeated. After a timeout or a rejection the host decides whether and when it asks once more.
+ *     (re)association (PEER_TRANSMIT_REPORT). The places of an AP and in an ad hoc network do not age: a peer that only asked keeps its place
+ *     until it is answered, an authenticated one until it is deauthenticated. A place is freed by the next clock step.
+ *   - Count time: the library has no clock. peer_pass is told how many TU passed; the timeouts of what was sent, a station's holds and an
+ *     AP's queries run by it alone.
+ *   - Ask again: nothing is repeated. After a timeout or a rejection the host decides whether and when it asks once more. In an ad hoc network
+ *     a request that is heard takes the place of one that we sent: no answer to ours and no timeout is told then. Answer it; each end that
+ *     answers with success counts the other as authenticated.
  *   - Drop duplicates: a frame that is received twice counts twice.
  *   - Complete the frames: out has no FCS, duration and sequence control are 0 for the radio to fill in, and elements are the host's to
  *     append (peer_comeback_append), but for the comeback time while a query runs.
@@ -47,8 +50,8 @@
  *     is written. A response ends the query. After PEER_KIND_QUERY_TIMED_OUT the peer's next request passes, and is indicated as any other.
  *   - Protect the frames: keys are not the library's, and the Protected bit is looked at for Public Action frames alone. The host protects
  *     the farewells and queries that it sends to a peer in State 4 where protection is in use, and hands on none from it that is not.
- *   - Tell true from false for the rest: who sent a frame is taken from its Address 2. With edition 1, or without protection, a forged farewell
- *     or request is obeyed.
+ *   - Tell true from false for the rest: who sent a frame is taken from its Address 2. With edition 1, without protection, or in an ad hoc
+ *     network a forged farewell or request is obeyed.
  *
  * What it runs on
  *   x86-64 (Linux; kernels: no red zone, general registers only), 64-bit and 32-bit Arm (Linux), Cortex-M4 (unaligned access not
@@ -71,15 +74,16 @@
 /* The structs are the octets of the calls: nothing is converted. An address is six octets as in a frame, or a number, the first octet
    lowest, so that a group address is odd; 2^48 and above is never valid. */
 typedef struct {
-    uint8_t role;                     /* PEER_AP or PEER_STATION */
-    uint8_t own[PEER_ADDRESS_OCTETS]; /* our address: individual, not 0 */
-    uint8_t rsna;                     /* 1 where RSNA is required, else 0 */
-    uint16_t authentication_timeout;  /* 1 to 65,535 TU: how long a station waits for the answer */
-    uint16_t association_timeout;     /* the same, for reassociation too */
-    uint8_t edition;                  /* PEER_EDITION_1 or PEER_EDITION_2 */
-    uint8_t protection;               /* 1 where management frames are protected, else 0; edition 1 does not look at it */
-    uint16_t query_retry;             /* 1 to 65,535 TU: an SA Query that is not answered is due again each time they have passed */
-    uint16_t query_maximum;           /* 1 to 65,535 TU from its start: then it has timed out */
+    uint8_t role;                         /* PEER_AP, PEER_STATION or PEER_AD_HOC */
+    uint8_t own[PEER_ADDRESS_OCTETS];     /* our address: individual, not 0 */
+    uint8_t rsna;                         /* 1 where RSNA is required, else 0 */
+    uint16_t authentication_timeout;      /* 1 to 65,535 TU: how long one who asks waits for the answer */
+    uint16_t association_timeout;         /* the same, for reassociation too */
+    uint8_t edition;                      /* PEER_EDITION_1 or PEER_EDITION_2 */
+    uint8_t protection;                   /* 1 where management frames are protected, else 0; edition 1 does not look at it */
+    uint16_t query_retry;                 /* 1 to 65,535 TU: an SA Query that is not answered is due again each time they have passed */
+    uint16_t query_maximum;               /* 1 to 65,535 TU from its start: then it has timed out */
+    uint8_t network[PEER_ADDRESS_OCTETS]; /* the ad hoc network's address: individual, not 0; at an AP and a station not looked at */
 } peer_settings;
 
 /* What a call answers. */
@@ -98,7 +102,7 @@ typedef struct {
 /* One place of the table. A free place is all zero. */
 typedef struct {
     uint64_t address;
-    uint32_t hold;    /* TU until this AP may be asked to join again; 0 at an AP */
+    uint32_t hold;    /* TU until this AP may be asked to join again; 0 at an AP; in an ad hoc network nothing sets it */
     uint16_t left;    /* TU until the exchange sent times out; else 0 */
     uint8_t state;
     uint8_t exchange;
@@ -123,7 +127,7 @@ typedef char peer_settings_are_octets[sizeof(peer_settings) == PEER_SETTINGS_OCT
     offsetof(peer_settings, rsna) == 7 && offsetof(peer_settings, authentication_timeout) == 8 &&
     offsetof(peer_settings, association_timeout) == 10 && offsetof(peer_settings, edition) == 12 &&
     offsetof(peer_settings, protection) == 13 && offsetof(peer_settings, query_retry) == 14 &&
-    offsetof(peer_settings, query_maximum) == 16 ? 1 : -1];
+    offsetof(peer_settings, query_maximum) == 16 && offsetof(peer_settings, network) == 18 ? 1 : -1];
 typedef char peer_answer_is_octets[sizeof(peer_answer) == PEER_ANSWER_OCTETS && offsetof(peer_answer, code) == 8 &&
     offsetof(peer_answer, written) == 10 && offsetof(peer_answer, refusal) == 12 && offsetof(peer_answer, verdict) == 13 &&
     offsetof(peer_answer, notice) == 14 && offsetof(peer_answer, ds) == 15 && offsetof(peer_answer, state) == 16 ? 1 : -1];

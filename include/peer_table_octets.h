@@ -6,9 +6,9 @@
  * Every number of several octets is little-endian. A slice lies at any alignment, its length is 64 bits on every processor.
  *   table      768 octets, read and written: 32 records of address 8, hold 4, left 2, state 1, exchange 1, and of the SA Query identifier 2,
  *              left 2, number 4. All zero: the empty table
- *   settings   18 octets: role 1, own address 6 (as in a frame), rsna 1, authentication timeout 2, association timeout 2, edition 1,
- *              protection 1, query retry 2, query maximum 2. Or the first 14 of these, with the usual times of a query; or the first 12:
- *              edition 1 without protection besides
+ *   settings   24 octets: role 1, own address 6 (as in a frame), rsna 1, authentication timeout 2, association timeout 2, edition 1,
+ *              protection 1, query retry 2, query maximum 2, the ad hoc network's address 6. Of an AP or a station also the first 18 of
+ *              these; or the first 14, with the usual times of a query; or the first 12: edition 1 without protection besides
  *   frame      any octets, without FCS
  *   out        what the call writes, from its first octet on
  *   answer     24 octets or more, of which 24 are written: current AP 8, code 2, written 2, refusal 1, verdict 1, notice 1,
@@ -21,15 +21,16 @@
 #include <stdint.h>
 
 /* Rises when a call, a layout or a number changes. */
-#define PEER_TABLE_VERSION 4
+#define PEER_TABLE_VERSION 5
 
 /* Sizes in octets, counts, and the times that the rules fix. A time is in TU of 1,024 microseconds. */
 enum {
     PEER_PLACES = 32,
     PEER_RECORD_OCTETS = 24,
     PEER_TABLE_OCTETS = 768,
-    PEER_SETTINGS_OCTETS = 18,
-    PEER_SETTINGS_OCTETS_EDITION = 14, /* without a query's times */
+    PEER_SETTINGS_OCTETS = 24,
+    PEER_SETTINGS_OCTETS_QUERY = 18,   /* without a network's address: not for PEER_AD_HOC */
+    PEER_SETTINGS_OCTETS_EDITION = 14, /* nor a query's times */
     PEER_SETTINGS_OCTETS_LEAST = 12,   /* nor edition and protection; no other length is taken */
     PEER_ANSWER_OCTETS = 24,
     PEER_ADDRESS_OCTETS = 6,
@@ -44,7 +45,11 @@ enum {
 };
 
 /* The role in the settings */
-enum { PEER_AP = 1, PEER_STATION = 2 };
+enum {
+    PEER_AP = 1,
+    PEER_STATION = 2,
+    PEER_AD_HOC = 3 /* one of several without an AP: each asks for authentication and answers, nobody associates */
+};
 
 /* The edition in the settings: where a peer stands after an AP has rejected its (re)association. With protection edition 2 also has each
    (re)association request from a peer in State 4 asked back by an SA Query. Nothing else depends on it. */
@@ -64,7 +69,7 @@ enum {
     PEER_REFUSED_INPUT = 3,    /* unknown primitive; code, clock step or peer address not allowed; frame too short or too long, its
                                   Address 2 invalid or own, or a (re)association response whose elements do not end with it */
     PEER_REFUSED_FOREIGN = 4,  /* the frame is neither for us nor for a group */
-    PEER_REFUSED_ROLE = 5,     /* the primitive is for the other role */
+    PEER_REFUSED_ROLE = 5,     /* the primitive is for another role */
     PEER_REFUSED_FULL = 6,     /* no place is free for a new record */
     PEER_REFUSED_NO_MATCH = 7, /* the primitive finds no matching exchange or state */
     PEER_REFUSED_HELD = 8,     /* this AP told the station to wait, and the time is not over */
@@ -92,7 +97,7 @@ enum {
 /* What an AP tells the distribution system */
 enum { PEER_DS_NOTHING = 0, PEER_DS_JOINED = 1, PEER_DS_LEFT = 2 };
 
-/* The state of a peer; 0 is a free place, or no record, or no peer. */
+/* The state of a peer; 0 is a free place, or no record, or no peer. In an ad hoc network there are States 1 and 2 alone. */
 enum {
     PEER_NO_STATE = 0,
     PEER_STATE_1 = 1, /* not authenticated */
@@ -101,7 +106,8 @@ enum {
     PEER_STATE_4 = 4  /* authenticated and associated, RSNA established or not required */
 };
 
-/* The exchange of a record: asked of us and awaiting an acknowledgement are an AP's, sent is a station's. 4 is never well formed. */
+/* The exchange of a record: asked of us and awaiting an acknowledgement are an AP's, sent is a station's; in an ad hoc network an
+   authentication is asked or sent. 4 is never well formed. */
 enum {
     PEER_NO_EXCHANGE = 0,
     PEER_ASKED_AUTHENTICATION = 1,
@@ -134,15 +140,15 @@ enum {
 
 /* Primitives of our own side: for whom, and which code goes with it */
 enum {
-    PEER_AUTHENTICATE_REQUEST = 1,  /* station, 0 */
-    PEER_AUTHENTICATE_RESPONSE = 2, /* AP, status */
-    PEER_DEAUTHENTICATE = 3,        /* both, reason other than 0 */
+    PEER_AUTHENTICATE_REQUEST = 1,  /* station, ad hoc, 0 */
+    PEER_AUTHENTICATE_RESPONSE = 2, /* AP, ad hoc, status */
+    PEER_DEAUTHENTICATE = 3,        /* every role, reason other than 0 */
     PEER_ASSOCIATE_REQUEST = 4,     /* station, 0 */
     PEER_REASSOCIATE_REQUEST = 5,   /* station, 0 */
-    PEER_DISASSOCIATE = 6,          /* both, reason other than 0 */
+    PEER_DISASSOCIATE = 6,          /* AP and station, reason other than 0 */
     PEER_ASSOCIATE_RESPONSE = 7,    /* AP, status */
     PEER_REASSOCIATE_RESPONSE = 8,  /* AP, status */
-    PEER_SET_PROTECTION = 9,        /* both, 0: the keys are in place, State 3 becomes 4 */
+    PEER_SET_PROTECTION = 9,        /* AP and station, 0: the keys are in place, State 3 becomes 4 */
     PEER_TRANSMIT_REPORT = 10,      /* AP: was our (re)association response acknowledged? */
     PEER_SA_QUERY_REQUEST = 11      /* AP, 0: sends the request of a query that is due */
 };

@@ -8,7 +8,7 @@ Nothing here checks a rule: a caller may ask for any field value that fits its o
 MARK = b"\x0b\x03"
 HEAD = 5  # octets of a record before its body: mark, kind, length
 SETTINGS, PRIMITIVE, FRAME, CLOCK = 0, 1, 2, 3
-ACCESS_POINT, STATION = 1, 2
+ACCESS_POINT, STATION, AD_HOC = 1, 2, 3
 
 MANAGEMENT, CONTROL, DATA, EXTENSION = 0, 1, 2, 3
 ASSOCIATION_REQUEST, ASSOCIATION_RESPONSE = 0, 1
@@ -72,22 +72,25 @@ def record(kind, body, length=None, mark=MARK):
     return mark + bytes((kind,)) + number(len(body) if length is None else length) + body
 
 
-# What settings mean that do not say it: edition, protection, a query's retry and maximum times in TU.
-USUAL_RULE = (1, 0, 201, 1000)
+# What settings mean that do not say it: edition, protection, a query's retry and maximum times in TU,
+# the network's address.
+USUAL_RULE = (1, 0, 201, 1000, ZERO)
 
 
 def settings(role, own, rsna=0, authentication_timeout=100, association_timeout=100, edition=None,
-             protection=None, query_retry=None, query_maximum=None):
+             protection=None, query_retry=None, query_maximum=None, network=None):
     """A record of 12 octets; of 14 where an edition or a protection flag is given, of 18 where a
-    query's retry or maximum time is. What is not given then is what the shorter record means."""
-    rule = edition, protection, query_retry, query_maximum
+    query's retry or maximum time is, of 24 where a network's address is. What is not given then is
+    what the shorter record means."""
+    rule = edition, protection, query_retry, query_maximum, network
     values = [usual if value is None else value for value, usual in zip(rule, USUAL_RULE)]
     body_ = bytes((role,)) + address(own) + bytes((rsna,))
     body_ += number(authentication_timeout) + number(association_timeout)
-    if any(value is not None for value in rule):
-        body_ += bytes(values[:2])
-    if any(value is not None for value in rule[2:]):
-        body_ += number(values[2]) + number(values[3])
+    tails = ((rule, bytes(values[:2])), (rule[2:], number(values[2]) + number(values[3])),
+             (rule[4:], address(values[4])))
+    for given, tail in tails:
+        if any(value is not None for value in given):
+            body_ += tail
     return record(SETTINGS, body_)
 
 

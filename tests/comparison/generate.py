@@ -10,8 +10,8 @@ import pathlib
 
 from tools import bench_input as bench
 
-from . import walk_ap, walk_damage, walk_query, walk_station, walk_sweep
-from .walk import Dice, Walk
+from . import walk_ad_hoc, walk_ap, walk_damage, walk_query, walk_station, walk_sweep
+from .walk import GROUPS, NETWORK, OWN, Dice, Walk
 
 # Events of one input; a walk or a sweep may make a few more.
 WALK_EVENTS = 1000
@@ -20,17 +20,22 @@ REFUSED_EVENTS = 25
 LONGEST_HOLD_EVENTS = 65544
 IDENTIFIERS_EVENTS = 131083
 SWEEP_EVENTS = 968
-KINDS = ("ap", "station", "ap-full", "station-full", "refused", "damaged", "sweep",
-         "longest-hold", "identifiers")
+KINDS = ("ap", "station", "ad-hoc", "ap-full", "station-full", "ad-hoc-full", "refused", "damaged",
+         "sweep", "longest-hold", "identifiers")
 # One round of walks; a plan repeats it until the count is reached.
-ROUND = ("ap", "station", "ap", "station", "ap", "station", "ap-full", "ap", "station",
-         "station-full", "ap", "station")
+ROUND = ("ap", "station", "ad-hoc", "ap", "station", "ap", "station", "ap-full", "ap", "station",
+         "ad-hoc", "station-full", "ap", "station", "ad-hoc-full")
+# Each role's number, its moves, and how often its settings record has 24 octets.
+ROLES = {"ap": (bench.ACCESS_POINT, walk_ap, 10), "station": (bench.STATION, walk_station, 10),
+         "ad-hoc": (bench.AD_HOC, walk_ad_hoc, 100)}
 TIMEOUTS = (1, 2, 3, 10, 50, 100, 100, 500, 1000, 1954, 30000, 65534, 65535)
 CROWD = 33
 # Edition and protection; without them the settings record has 12 octets. Behind them a query's times,
-# in the record of 18.
+# in the record of 18, and a network's address, in that of 24. Two roles do not look at it, and in the
+# third it may be our own.
 RULES = ((), (1, 0), (1, 1), (2, 0), (2, 0), (2, 1), (2, 1), (2, 1), (2, 1), (2, 1))
 QUERY_TIMES = (1, 2, 3, 5, 7, 10, 10, 20, 30, 100, 201, 1000, 65534, 65535)
+NETWORKS = (NETWORK, NETWORK, OWN, bench.address("02:00:00:00:01:00"), bench.address("fe:ff:ff:ff:ff:ff"))
 
 Job = collections.namedtuple("Job", "name kind seed index events")
 
@@ -69,22 +74,25 @@ def plan(seed, count, kind=None):
     return jobs
 
 
-def rule_of(dice):
-    """Edition and protection, and for most of those that have them a query's times too."""
+def rule_of(dice, role, percent):
+    """Edition and protection, for most of those that have them a query's times too, and for some
+    percent all of it with a network's address."""
     rule = dice.of(RULES)
+    if dice.chance(percent):
+        network = dice.of(NETWORKS if role == bench.AD_HOC else NETWORKS + GROUPS + (bench.ZERO,))
+        return (*(rule or (1, 0)), dice.of(QUERY_TIMES), dice.of(QUERY_TIMES), network)
     return (*rule, dice.of(QUERY_TIMES), dice.of(QUERY_TIMES)) if rule and dice.chance(75) else rule
 
 
 def walked(job, dice):
     """A guided walk: settings drawn, a crowd put in where the kind asks for one, then steps."""
-    role_kind, _, full = job.kind.partition("-")
-    moves = walk_ap if role_kind == "ap" else walk_station
-    role = bench.ACCESS_POINT if role_kind == "ap" else bench.STATION
+    full = job.kind.endswith("-full")
+    role, moves, percent = ROLES[job.kind[:-len("-full")] if full else job.kind]
     peers = CROWD + dice.below(8) if full else dice.of((1, 2, 3, 4, 5, 6, 6, 7, 8, 9, 12))
     timeouts = dice.of(TIMEOUTS), dice.of(TIMEOUTS)
-    if full and role == bench.STATION:
+    if full and role != bench.ACCESS_POINT:
         timeouts = dice.of((20, 1000, 65535)), timeouts[1]
-    walk = Walk(dice, role, peers, dice.below(2), timeouts, rule_of(dice))
+    walk = Walk(dice, role, peers, dice.below(2), timeouts, rule_of(dice, role, percent))
     if full:
         moves.fill(walk)
     while walk.events() < job.events:

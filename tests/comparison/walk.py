@@ -15,6 +15,7 @@ LONGEST_STEP = 65535
 USUAL_HOLD = 1954
 
 OWN = bench.address("02:00:00:00:00:0a")
+NETWORK = bench.address("06:00:00:00:00:ad")
 GROUPS = (bench.BROADCAST, bench.address("01:00:5e:00:00:fb"), bench.address("03:00:00:00:00:0a"))
 FOREIGN = (bench.address("02:00:00:00:00:0b"), bench.address("06:ff:ff:ff:ff:ff"), bench.ZERO)
 
@@ -72,11 +73,11 @@ class Walk:
     """Settings, peers and the records so far."""
 
     def __init__(self, dice, role, peer_count, rsna, timeouts, rule=()):
-        """The rule is edition and protection, then a query's retry and maximum times; what is left out
-        makes the settings record shorter."""
+        """The rule is edition and protection, then a query's retry and maximum times, then the network's
+        address; what is left out makes the settings record shorter."""
         self.dice, self.role, self.rsna, self.timeouts = dice, role, rsna, timeouts
         rule_ = (*rule, *bench.USUAL_RULE[len(rule):])
-        self.edition, self.protection, self.retry, self.maximum = rule_
+        self.edition, self.protection, self.retry, self.maximum, _ = rule_
         self.own = OWN
         self.peers = [Peer(bench.address(f"02:00:00:00:01:{n:02x}")) for n in range(peer_count)]
         self.records = [bench.settings(role, OWN, rsna, *timeouts, *rule)]
@@ -152,7 +153,7 @@ class Walk:
             peer.hold = max(peer.hold, hold)
 
 
-# Moves that both roles share; each makes one event or a few
+# Moves that the roles share; each makes one event or a few
 
 def fall_by_frame(walk, peer):
     """The peer leaves, now and then by a group address, with reason 0 or a tail of octets."""

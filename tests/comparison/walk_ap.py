@@ -20,7 +20,7 @@ def hear_authentication(walk, peer):
     rest = b"" if dice.chance(90) else odd_elements(dice)
     walk.hear(bench.authentication(walk.own, peer.address, transaction, status, algorithm, rest))
     if algorithm == 0 and transaction == 1 and walk.take_place(peer):
-        peer.exchange = (ASKED, AUTHENTICATION)
+        peer.exchange, peer.left = (ASKED, AUTHENTICATION), 0
 
 
 def hear_request(walk, peer):

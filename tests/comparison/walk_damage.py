@@ -2,7 +2,7 @@
 
 from tools import bench_input as bench
 
-from .walk import OWN, Walk
+from .walk import NETWORK, OWN, Walk
 from .walk_odd import odd_frame, odd_primitive
 
 PEER = bench.address("02:00:00:00:01:00")
@@ -20,7 +20,16 @@ OUT_OF_RANGE = (
     dict(role=bench.STATION, edition=2, protection=2),
     dict(query_retry=0), dict(query_maximum=0), dict(role=bench.STATION, query_retry=0),
     dict(edition=2, protection=1, query_retry=0, query_maximum=0),
-    dict(edition=3, query_retry=201), dict(protection=2, query_maximum=1000))
+    dict(edition=3, query_retry=201), dict(protection=2, query_maximum=1000),
+    dict(role=bench.AD_HOC, edition=2), dict(role=bench.AD_HOC, query_retry=201),
+    *(dict(role=bench.AD_HOC, network=bad)
+      for bad in (bench.ZERO, bench.BROADCAST, "03:00:00:00:00:0a", "01:00:00:00:00:00")),
+    *(dict(role=bench.AD_HOC, network=NETWORK, **bad)
+      for bad in (dict(own=bench.ZERO), dict(own=bench.BROADCAST), dict(rsna=2), dict(edition=3),
+                  dict(protection=2), dict(query_retry=0), dict(query_maximum=0),
+                  dict(authentication_timeout=0), dict(association_timeout=0))),
+    dict(role=4, network=NETWORK), dict(rsna=2, network=NETWORK),
+    dict(role=bench.STATION, edition=0, network=NETWORK))
 
 
 def base():
@@ -66,13 +75,13 @@ def bad_starts():
     good = bench.settings(**GOOD)
     body = good[5:]
     rest = b"".join(base()[1:])
-    longer = body + b"\1\0\1\0\1\0\1"
-    lengths = [bench.record(bench.SETTINGS, longer[:length])
-               for length in (0, 1, 11, 13, 14, 15, 16, 17, 18, 19)]
+    longer = body + b"\1\0\1\0\1\0" + NETWORK + b"\1"
+    lengths = [bench.record(bench.SETTINGS, longer[:length]) for length in (0, 1, 11, *range(13, 26))]
     lying = [bench.record(bench.SETTINGS, longer[:length], length=other)
-             for length, other in ((12, 14), (14, 12), (14, 18), (18, 14))]
+             for length, other in ((12, 14), (14, 12), (14, 18), (18, 14), (18, 24), (24, 18))]
     starts = lengths + lying + [bench.record(bench.SETTINGS, body, mark=b"\0\0"), b"", b"\n"]
-    cut = [bench.settings(**GOOD, edition=2)[:-1], bench.settings(**GOOD, query_retry=1)[:-1]]
+    cut = [bench.settings(**GOOD, **last)[:-1]
+           for last in (dict(edition=2), dict(query_retry=1), dict(network=NETWORK))]
     return [start + rest for start in starts] + cut + [good, good + good, good + b"\0", b"\x0b", b"\x0c"]
 
 

@@ -24,6 +24,9 @@ BROKEN_ENDS = (b"\x38", b"\0", b"\xff", b"\x38\5", b"\0\1", b"\x38\5\3\0", b"\x3
 CODES = (0, 1, 2, 17, 256, 65535)
 SINGLE_CODE = (1, 4, 5, 9, 11)
 ANY_BUT_ZERO = (3, 6)
+# The primitives that are not for a role; in a role out of range every one is refused.
+OTHER_ROLES = {bench.ACCESS_POINT: (1, 4, 5), bench.STATION: (2, 7, 8, 10, 11),
+               bench.AD_HOC: (4, 5, 6, 7, 8, 9, 10, 11)}
 
 
 def least_length(kind, subtype):
@@ -121,7 +124,7 @@ def good_code(dice, which):
 
 
 def odd_primitive(walk, peer):
-    """A primitive that is unknown, of the other role, with a bad code, or to a bad or a
+    """A primitive that is unknown, of another role, with a bad code, or to a bad or a
     strange address."""
     dice = walk.dice
     fault = dice.below(5)
@@ -130,7 +133,7 @@ def odd_primitive(walk, peer):
         which = dice.of((0, 12, 13, 128, 255))
         walk.ask(which, peer.address, dice.of(CODES))
     elif fault == 1:
-        which = dice.of((2, 7, 8, 10, 11) if walk.role == bench.STATION else (1, 4, 5))
+        which = dice.of(OTHER_ROLES.get(walk.role, SINGLE_CODE))
         walk.ask(which, peer.address, good_code(dice, which))
     elif fault == 2:
         which = dice.of((1, 3, 4, 5, 6, 9, 10, 11))

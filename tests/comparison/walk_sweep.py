@@ -1,20 +1,12 @@
 """Sweeps: one peer is brought into a given state again and again, and every type and subtype to
-every sort of Address 1 at its boundary lengths, then Action frames, every primitive and code, and at
-an access point every answer to a request, is tried there."""
+every sort of Address 1 at its boundary lengths, then Action frames, every primitive and code, at an
+access point every answer to a request, and in an ad hoc network every pair of DS bits, is tried there."""
 
 from tools import bench_input as bench
 
-from .walk import FOREIGN, GROUPS, LONGEST_STEP, Walk
+from .walk import FOREIGN, GROUPS, LONGEST_STEP, NETWORK, OWN, Walk
 from .walk_odd import FILLS, LEAST_MANAGEMENT, least_length
 
-# Each sweep's role, RSNA, state and rule (edition and protection). State 3 is reached where RSNA is
-# required, or by a rejection at an access point of the second edition.
-SWEEPS = tuple((role, rsna, state, rule)
-               for role, rule in ((bench.ACCESS_POINT, ()), (bench.STATION, (2, 1)))
-               for rsna, state in ((0, 0), (0, 1), (1, 2), (1, 3), (0, 4)))
-SWEEPS += tuple((bench.ACCESS_POINT, rsna, state, rule)
-                for rsna, state, rule in ((0, 4, (1, 1)), (0, 3, (2, 0)), (0, 4, (2, 0)),
-                                          (1, 3, (2, 1)), (0, 4, (2, 1)), (0, 4, (2, 1, 10, 25))))
 RESPONSES = (bench.ASSOCIATION_RESPONSE, bench.REASSOCIATION_RESPONSE)
 PRIMITIVES = tuple(range(13))
 CODES = (0, 1, 2, 65535)
@@ -48,6 +40,24 @@ def reach_at_station(walk, peer, state):
     if state > 2:
         walk.ask(4, peer.address)
         walk.hear(bench.association_response(walk.own, peer.address))
+
+
+# Each sweep's way to its state, role, RSNA, state and rule. State 3 is reached where RSNA is required,
+# or by a rejection at an access point of the second edition; in an ad hoc network either way leads on.
+SWEEPS = tuple((way, role, rsna, state, rule)
+               for way, role, rule in ((reach_at_ap, bench.ACCESS_POINT, ()),
+                                       (reach_at_station, bench.STATION, (2, 1)))
+               for rsna, state in ((0, 0), (0, 1), (1, 2), (1, 3), (0, 4)))
+SWEEPS += tuple((reach_at_ap, bench.ACCESS_POINT, rsna, state, rule)
+                for rsna, state, rule in ((0, 4, (1, 1)), (0, 3, (2, 0)), (0, 4, (2, 0)),
+                                          (1, 3, (2, 1)), (0, 4, (2, 1)), (0, 4, (2, 1, 10, 25))))
+SWEEPS += tuple((way, bench.AD_HOC, rsna, state, rule)
+                for way, rsna, state, rule in (
+                    (reach_at_ap, 0, 0, (1, 0, 201, 1000, NETWORK)),
+                    (reach_at_ap, 1, 1, (2, 1, 201, 1000, NETWORK)),
+                    (reach_at_station, 0, 1, (1, 0, 201, 1000, OWN)),
+                    (reach_at_ap, 0, 2, (2, 1, 201, 1000, NETWORK)),
+                    (reach_at_station, 1, 2, (1, 1, 201, 1000, NETWORK))))
 
 
 def sweep_frames(walk, peer, reach):
@@ -111,6 +121,17 @@ def sweep_queries(walk, peer, reach):
                 walk.hear(request)
 
 
+def sweep_ds(walk, peer, reach):
+    """Every type and subtype with each pair of DS bits, to our own address and to a group."""
+    for kind in range(4):
+        for subtype in range(16):
+            for ds in range(4):
+                for receiver in (walk.own, GROUPS[0]):
+                    walk.hear(bench.any_frame(kind, subtype, receiver, peer.address, 34, ds=ds))
+            if kind == bench.MANAGEMENT:
+                reach()
+
+
 def sweep_primitives(walk, peer, reach):
     for which in PRIMITIVES:
         for code in CODES:
@@ -132,14 +153,13 @@ def sweep_answers(walk, peer, reach):
 
 def swept(dice, index):
     """The octets of one sweep."""
-    role, rsna, state, rule = SWEEPS[index]
+    way, role, rsna, state, rule = SWEEPS[index]
     walk = Walk(dice, role, 1, rsna, (1000, 1000), rule)
     peer = walk.peers[0]
-    path = reach_at_ap if role == bench.ACCESS_POINT else reach_at_station
 
     def reach():
         reset(walk, peer)
-        path(walk, peer, state)
+        way(walk, peer, state)
 
     reach()
     sweep_frames(walk, peer, reach)
@@ -149,4 +169,6 @@ def swept(dice, index):
     if role == bench.ACCESS_POINT:
         sweep_answers(walk, peer, reach)
         sweep_queries(walk, peer, reach)
+    if role == bench.AD_HOC:
+        sweep_ds(walk, peer, reach)
     return walk.octets()

@@ -6,8 +6,8 @@
 #include <stdio.h>
 #include <string.h>
 
-#if PEER_TABLE_VERSION != 4
-#error "this test is of version 4"
+#if PEER_TABLE_VERSION != 5
+#error "this test is of version 5"
 #endif
 
 static int faults;
@@ -99,8 +99,8 @@ static void names(void)
 /* A station asks, its request is heard by an AP, and its time runs out. */
 static void calls(void)
 {
-    static const peer_settings ap = { PEER_AP, { 2, 0, 0, 0, 0, 0x0a }, 0, 100, 100, PEER_EDITION_1, 0, 201, 1000 };
-    static const peer_settings station = { PEER_STATION, { 2, 0, 0, 0, 1, 1 }, 0, 100, 100, PEER_EDITION_2, 1, 201, 1000 };
+    static const peer_settings ap = { PEER_AP, { 2, 0, 0, 0, 0, 0x0a }, 0, 100, 100, PEER_EDITION_1, 0, 201, 1000, { 0 } };
+    static const peer_settings station = { PEER_STATION, { 2, 0, 0, 0, 1, 1 }, 0, 100, 100, PEER_EDITION_2, 1, 201, 1000, { 0 } };
     peer_table at_ap, at_station;
     uint8_t out[PEER_PASS_OUT_LEAST], answer[PEER_OUT_LEAST];
     peer_answer a;
@@ -118,10 +118,34 @@ static void calls(void)
     want(a.refusal == PEER_REFUSED_BUFFER && a.written == 0, "a refusal");
 }
 
-/* Settings from before there were editions, or queries: refused as a struct, taken as the octets that they were. */
+/* Two ask each other at once, without an AP: the request heard takes the place of ours, and the frame carries the network's address. */
+static void ad_hoc(void)
+{
+    static const peer_settings one = { PEER_AD_HOC, { 2, 0, 0, 0, 1, 1 }, 0, 100, 100, PEER_EDITION_1, 0, 201, 1000, { 2, 0, 0, 0, 0, 9 } };
+    static const peer_settings other = { PEER_AD_HOC, { 2, 0, 0, 0, 2, 1 }, 0, 100, 100, PEER_EDITION_1, 0, 201, 1000, { 2, 0, 0, 0, 0, 9 } };
+    const uint64_t first = peer_address_read(one.own), second = peer_address_read(other.own);
+    peer_table at_one, at_other;
+    uint8_t out[PEER_PASS_OUT_LEAST], answer[PEER_OUT_LEAST];
+    peer_answer a;
+
+    memset(&at_one, 0, sizeof at_one);
+    memset(&at_other, 0, sizeof at_other);
+    peer_ask(&at_one, &one, PEER_AUTHENTICATE_REQUEST, second, 0, out, sizeof out);
+    a = peer_ask(&at_other, &other, PEER_AUTHENTICATE_REQUEST, first, 0, out, sizeof out);
+    want(a.refusal == PEER_DONE && memcmp(out + 16, one.network, PEER_ADDRESS_OCTETS) == 0, "the network's address is Address 3");
+    a = peer_receive(&at_one, &one, out, a.written, answer, sizeof answer);
+    want(a.notice == PEER_AUTHENTICATION_INDICATION && at_one.at[0].exchange == PEER_ASKED_AUTHENTICATION && at_one.at[0].left == 0,
+         "both ask at once");
+    a = peer_ask(&at_one, &one, PEER_AUTHENTICATE_RESPONSE, second, PEER_STATUS_SUCCESS, out, sizeof out);
+    want(a.refusal == PEER_DONE && a.state == PEER_STATE_2, "authenticated without an AP");
+    a = peer_ask(&at_one, &one, PEER_ASSOCIATE_REQUEST, second, 0, out, sizeof out);
+    want(a.refusal == PEER_REFUSED_ROLE, "nobody associates in an ad hoc network");
+}
+
+/* Settings from before there were editions, queries or ad hoc networks: refused as a struct, taken as the octets that they were. */
 static void older_settings(void)
 {
-    peer_settings older = { PEER_STATION, { 2, 0, 0, 0, 1, 1 }, 0, 100, 100, 0, 0, 0, 0 };
+    peer_settings older = { PEER_STATION, { 2, 0, 0, 0, 1, 1 }, 0, 100, 100, 0, 0, 0, 0, { 0 } };
     peer_table table;
     uint8_t out[PEER_PASS_OUT_LEAST];
     peer_answer a;
@@ -134,6 +158,16 @@ static void older_settings(void)
     want(peer_pass(&table, &older, 1, out, sizeof out).refusal == PEER_REFUSED_TABLE, "no times of a query");
     want(peer_pass_octets((uint8_t *)&table, sizeof table, (const uint8_t *)&older, PEER_SETTINGS_OCTETS_EDITION, 1, out, sizeof out,
                           (uint8_t *)&a, sizeof a) == PEER_DONE, "settings of 14 octets");
+    older.query_retry = older.query_maximum = 1;
+    want(peer_pass(&table, &older, 1, out, sizeof out).refusal == PEER_DONE, "a station without a network's address");
+    want(peer_pass_octets((uint8_t *)&table, sizeof table, (const uint8_t *)&older, PEER_SETTINGS_OCTETS_QUERY, 1, out, sizeof out,
+                          (uint8_t *)&a, sizeof a) == PEER_DONE, "settings of 18 octets");
+    older.role = PEER_AD_HOC;
+    want(peer_pass(&table, &older, 1, out, sizeof out).refusal == PEER_REFUSED_TABLE, "an ad hoc network without an address");
+    older.network[0] = 2;
+    want(peer_pass(&table, &older, 1, out, sizeof out).refusal == PEER_DONE, "an ad hoc network with an address");
+    want(peer_pass_octets((uint8_t *)&table, sizeof table, (const uint8_t *)&older, PEER_SETTINGS_OCTETS_QUERY, 1, out, sizeof out,
+                          (uint8_t *)&a, sizeof a) == PEER_REFUSED_TABLE, "settings of 18 octets in an ad hoc network");
 }
 
 int main(void)
@@ -144,6 +178,7 @@ int main(void)
     timeouts();
     names();
     calls();
+    ad_hoc();
     older_settings();
     return faults > 0;
 }

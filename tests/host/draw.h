@@ -12,8 +12,8 @@ peer_settings draw_settings(struct chance *c, uint8_t role);
 void spoil_settings(struct chance *c, peer_settings *s);
 uint64_t own_of(const struct call *call);
 
-/* Table, settings and answer of the lengths that a host has: now and then settings from before there were queries, or editions. Then now and
-   then another length of settings or answer. */
+/* Table, settings and answer of the lengths that a host has: now and then settings from before there were ad hoc networks, queries, or
+   editions. Then now and then another length of settings or answer. */
 void lend_usual(struct call *call, struct chance *c);
 void draw_lengths(struct chance *c, struct call *call);
 
@@ -27,6 +27,7 @@ struct pt_record standing(const struct call *call, uint64_t address);
 /* An event that may mean something to the table as it stands; the buffer is nearly always long enough. */
 void draw_event(struct chance *c, struct call *call);
 void draw_frame(struct chance *c, struct call *call, uint64_t peer);
+uint16_t draw_transaction(struct chance *c, uint8_t role);
 size_t draw_out(struct chance *c, enum call_kind kind);
 
 #endif

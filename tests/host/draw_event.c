@@ -36,6 +36,12 @@ static size_t draw_elements(struct chance *c, uint8_t *p)
     return percent(c, 80) || length == 0 ? length : length - 1 - below(c, 2);
 }
 
+/* An AP is asked by transaction 1, a station answered by 2; in an ad hoc network either may come. */
+uint16_t draw_transaction(struct chance *c, uint8_t role)
+{
+    return (uint16_t)(role == PEER_AD_HOC ? 1 + below(c, 2) : role);
+}
+
 /* The fixed fields of the management frames that have some. */
 static void draw_body(struct chance *c, uint8_t *frame, unsigned subtype, uint8_t role)
 {
@@ -44,7 +50,7 @@ static void draw_body(struct chance *c, uint8_t *frame, unsigned subtype, uint8_
 
     if (subtype == PT_AUTH) {
         pt_put16(frame + 24, (uint16_t)(percent(c, 92) ? 0 : 1 + below(c, 65535)));
-        pt_put16(frame + 26, (uint16_t)(percent(c, 90) ? role : below(c, 4)));
+        pt_put16(frame + 26, (uint16_t)(percent(c, 90) ? draw_transaction(c, role) : below(c, 4)));
         pt_put16(frame + 28, ONE_OF(c, statuses));
     } else if (subtype == PT_ASSOC_RESPONSE || subtype == PT_REASSOC_RESPONSE) {
         pt_put16(frame + 26, ONE_OF(c, statuses));
@@ -97,10 +103,10 @@ void draw_frame(struct chance *c, struct call *call, uint64_t peer)
 
 static void draw_primitive(struct chance *c, struct call *call)
 {
-    static const uint8_t of_role[2][8] = { { 2, 7, 8, 10, 11, 3, 6, 9 }, { 1, 4, 5, 1, 4, 3, 6, 9 } };
+    static const uint8_t of_role[][8] = { { 2, 7, 8, 10, 11, 3, 6, 9 }, { 1, 4, 5, 1, 4, 3, 6, 9 }, { 1, 2, 1, 2, 1, 2, 3, 3 } };
     static const uint16_t codes[] = { 0, 1, 2, 17, 256, 65535 };
 
-    call->primitive = of_role[call->settings.role == PEER_STATION][below(c, 8)];
+    call->primitive = of_role[call->settings.role - PEER_AP][below(c, 8)];
     if (percent(c, 20))
         call->primitive = (uint8_t)below(c, percent(c, 50) ? 13 : 256);
     call->number = ONE_OF(c, codes);

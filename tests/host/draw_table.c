@@ -19,15 +19,16 @@ uint64_t draw_address(struct chance *c, uint64_t own)
     return percent(c, 20) ? own : percent(c, 30) ? draw(c) >> 16 : ONE_OF(c, odd);
 }
 
+/* An AP is asked, a station asks; in an ad hoc network each does either, for authentication alone. */
 static void draw_exchange(struct chance *c, const struct pt_settings *s, struct pt_record *r, bool *associating)
 {
-    bool station = s->role == PEER_STATION;
+    bool station = s->role == PEER_STATION, alone = s->role == PEER_AD_HOC || r->state == 1 || (station && *associating);
 
     if (percent(c, 45))
         return;
-    r->kind = (uint8_t)(1 + (r->state == 1 || (station && *associating) ? 0 : below(c, 3)));
+    r->kind = (uint8_t)(1 + (alone ? 0 : below(c, 3)));
     *associating = *associating || r->kind > PT_AUTHENTICATION;
-    if (station) {
+    if (station || (s->role == PEER_AD_HOC && percent(c, 50))) {
         r->phase = PT_SENT;
         r->left = percent(c, 60) ? 1 + below(c, 200) : 1 + below(c, 65535);
     } else {
@@ -57,7 +58,7 @@ void draw_table(struct chance *c, struct call *call)
     struct pt_settings s = settings_of(&call->settings, call->settings_octets);
     struct pt_record table[PT_PLACES] = { { 0 } };
     unsigned crowd = ONE_OF(c, crowds), first = below(c, POOL);
-    bool joined = false, associating = false, station = s.role == PEER_STATION;
+    bool joined = false, associating = false, ap = s.role == PEER_AP;
 
     for (unsigned i = 0; i < PT_PLACES; i++) {
         struct pt_record *r = &table[i];
@@ -65,11 +66,11 @@ void draw_table(struct chance *c, struct call *call)
         if (!percent(c, crowd))
             continue;
         r->address = pool_address((first + i * 7) % POOL);
-        r->state = (uint8_t)(1 + below(c, station && joined ? 2 : 4));
+        r->state = (uint8_t)(1 + below(c, s.role == PEER_AD_HOC || (!ap && joined) ? 2 : 4));
         joined = joined || r->state >= 3;
         draw_exchange(c, &s, r, &associating);
         draw_query(c, &s, r);
-        if (station && percent(c, 40))
+        if (!ap && percent(c, 40))
             r->hold = ONE_OF(c, holds);
     }
     octets_of(table, call->table);

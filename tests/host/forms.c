@@ -55,12 +55,13 @@ bool table_of(const uint8_t *octets, struct pt_record *table)
 
 bool settings_length(size_t octets)
 {
-    return octets == PEER_SETTINGS_OCTETS || octets == PEER_SETTINGS_OCTETS_EDITION || octets == PEER_SETTINGS_OCTETS_LEAST;
+    return octets == PEER_SETTINGS_OCTETS || octets == PEER_SETTINGS_OCTETS_QUERY || octets == PEER_SETTINGS_OCTETS_EDITION ||
+           octets == PEER_SETTINGS_OCTETS_LEAST;
 }
 
 struct pt_settings settings_of(const peer_settings *settings, size_t octets)
 {
-    bool edition = octets >= PEER_SETTINGS_OCTETS_EDITION, query = octets >= PEER_SETTINGS_OCTETS;
+    bool edition = octets >= PEER_SETTINGS_OCTETS_EDITION, query = octets >= PEER_SETTINGS_OCTETS_QUERY;
 
     return (struct pt_settings){
         .own = pt_get48(settings->own), .role = settings->role, .rsna = settings->rsna,
@@ -68,6 +69,7 @@ struct pt_settings settings_of(const peer_settings *settings, size_t octets)
         .edition = edition ? settings->edition : PEER_EDITION_1, .protection = edition ? settings->protection : 0,
         .query_retry = query ? settings->query_retry : PEER_QUERY_RETRY_USUAL,
         .query_maximum = query ? settings->query_maximum : PEER_QUERY_MAXIMUM_USUAL,
+        .network = octets >= PEER_SETTINGS_OCTETS ? pt_get48(settings->network) : 0,
     };
 }
 

@@ -31,7 +31,7 @@ void run_shot(unsigned long number, struct chance *c)
     static struct call call;
     unsigned sort = below(c, 100);
 
-    call.settings = draw_settings(c, percent(c, 50) ? PEER_AP : PEER_STATION);
+    call.settings = draw_settings(c, (uint8_t)(PEER_AP + below(c, 3)));
     lend_usual(&call, c);
     call.table_kind = TABLE_DRAWN;
     call.source = "the single shots";

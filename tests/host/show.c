@@ -21,9 +21,10 @@ void call_print(const struct call *c)
 
     printf("  %s, call %lu of %s, out of %zu octets, answer of %zu\n", names[c->kind], c->index, c->source, c->out_octets,
            c->answer_octets);
-    printf("  settings of %zu octets: role %u, own %012llx, rsna %u, timeouts %u and %u, edition %u, protection %u, query %u and %u\n",
-           c->settings_octets, s->role, (unsigned long long)pt_get48(s->own), s->rsna, s->authentication_timeout,
-           s->association_timeout, s->edition, s->protection, s->query_retry, s->query_maximum);
+    printf("  settings of %zu octets: role %u, own %012llx, rsna %u, timeouts %u and %u, edition %u, protection %u, query %u and %u,"
+           " network %012llx\n", c->settings_octets, s->role, (unsigned long long)pt_get48(s->own), s->rsna, s->authentication_timeout,
+           s->association_timeout, s->edition, s->protection, s->query_retry, s->query_maximum,
+           (unsigned long long)pt_get48(s->network));
     if (c->kind == CALL_ASK)
         printf("  primitive %u, address %012llx, code %u\n", c->primitive, (unsigned long long)c->address, c->number);
     if (c->kind == CALL_PASS)

@@ -1,4 +1,4 @@
-/* sweep.c - sweeps: every value of one thing, the rest drawn, both roles and all three calls. */
+/* sweep.c - sweeps: every value of one thing, the rest drawn, all three roles and all three calls. */
 #include "draw.h"
 #include "runs.h"
 
@@ -27,6 +27,17 @@ static void made(struct chance *c, unsigned long index)
     checked(&call, c);
 }
 
+/* A table of one record, with a time left where the exchange was sent: the number alone decides. */
+static uint8_t *alone(struct chance *c, unsigned exchange)
+{
+    uint8_t *record = call.table + PEER_RECORD_OCTETS * below(c, PT_PLACES);
+
+    memset(call.table, 0, PEER_TABLE_OCTETS);
+    pt_put48(record, pool_address(below(c, POOL)));
+    pt_put16(record + 12, (uint16_t)(exchange >= PEER_SENT_AUTHENTICATION ? 1 + below(c, 200) : 0));
+    return record;
+}
+
 /* Offset 14 is the state, 15 the exchange. In a free place too, which is then not free. */
 static void sweep_octet(struct chance *c, enum call_kind kind, uint8_t role)
 {
@@ -34,7 +45,8 @@ static void sweep_octet(struct chance *c, enum call_kind kind, uint8_t role)
         for (unsigned value = 0; value < 256; value++)
             for (unsigned state = 0; state <= 4; state += offset == 15 ? 1 : 5) {
                 fresh(c, kind, role, offset == 14 ? "the sweep of states" : "the sweep of exchange numbers");
-                uint8_t *record = call.table + PEER_RECORD_OCTETS * below(c, PT_PLACES);
+                uint8_t *record = offset == 15 && percent(c, 50) ? alone(c, value)
+                                                                 : call.table + PEER_RECORD_OCTETS * below(c, PT_PLACES);
                 if (state > 0)
                     record[14] = (uint8_t)state;
                 record[offset] = (uint8_t)value;
@@ -155,13 +167,13 @@ static void sweep_settings(struct chance *c, enum call_kind kind, uint8_t role)
     }
 }
 
-/* All 32 exchanges of a station run out in one step: the longest output there is. */
-static void sweep_timeouts(struct chance *c)
+/* All 32 exchanges that were sent run out in one step: the longest output there is. */
+static void sweep_timeouts(struct chance *c, uint8_t role)
 {
     for (unsigned most = 0; most <= PT_PLACES; most++) {
         struct pt_record table[PT_PLACES] = { { 0 } };
 
-        fresh(c, CALL_PASS, PEER_STATION, "the sweep of timeouts at once");
+        fresh(c, CALL_PASS, role, "the sweep of timeouts at once");
         for (unsigned i = 0; i < most; i++)
             table[i] = (struct pt_record){ .address = pool_address(i), .left = 1 + i, .hold = i % 3, .state = (uint8_t)(1 + i % 2),
                                            .phase = PT_SENT, .kind = PT_AUTHENTICATION };
@@ -192,7 +204,7 @@ static void sweep_queries_at_once(struct chance *c)
 
 void run_sweeps(struct chance *c)
 {
-    for (uint8_t role = PEER_AP; role <= PEER_STATION; role++) {
+    for (uint8_t role = PEER_AP; role <= PEER_AD_HOC; role++) {
         for (int kind = 0; kind < CALL_KINDS; kind++) {
             sweep_octet(c, (enum call_kind)kind, role);
             sweep_query(c, (enum call_kind)kind, role);
@@ -203,6 +215,7 @@ void run_sweeps(struct chance *c)
         sweep_frames(c, role);
         sweep_numbers(c, role);
     }
-    sweep_timeouts(c);
+    sweep_timeouts(c, PEER_STATION);
+    sweep_timeouts(c, PEER_AD_HOC);
     sweep_queries_at_once(c);
 }

@@ -1,11 +1,11 @@
-/* tally.c - counts by call, table, refusal, verdict, notice, word to the distribution system, state, timeouts, rejections and frames written. */
+/* tally.c - counts by call, role, table, refusal, verdict, notice, word to the distribution system, state, timeouts, rejections, frames written. */
 #include "tally.h"
 
 #include <stdio.h>
 
 enum { MOST = 33 };
 
-enum field { CALLS, TABLES, REFUSALS, VERDICTS, NOTICES, DS_WORDS, STATES, TIMEOUTS, KINDS, REJECTIONS, FRAMES, FIELDS };
+enum field { CALLS, ROLES, TABLES, REFUSALS, VERDICTS, NOTICES, DS_WORDS, STATES, TIMEOUTS, KINDS, REJECTIONS, FRAMES, FIELDS };
 
 /* What each field is called and how many values it has, all of which must be seen; refusals also for each call, below. */
 static const struct {
@@ -13,6 +13,7 @@ static const struct {
     unsigned values;
 } fields[FIELDS] = {
     [CALLS] = { "call (receive, ask, pass)", CALL_KINDS },
+    [ROLES] = { "role, of calls that were done (AP, station, ad hoc)", 3 },
     [TABLES] = { "table (corpus, walk, drawn, spoilt, random, of other length)", TABLE_KINDS },
     [REFUSALS] = { "refusal", 10 },
     [VERDICTS] = { "verdict", 3 },
@@ -73,6 +74,8 @@ void tally_add(const struct call *call, const struct pt_answer *answer, const ui
     counts[DS_WORDS][answer->ds]++;
     counts[STATES][answer->state]++;
     refusals[call->kind][answer->refusal]++;
+    if (answer->refusal == PT_DONE)
+        counts[ROLES][call->settings.role - PEER_AP]++;
     if (call->kind == CALL_PASS && answer->refusal == PT_DONE)
         add_timeouts(out, answer->written / PEER_TIMEOUT_OCTETS);
     else if (answer->written > 0)

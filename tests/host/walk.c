@@ -14,7 +14,7 @@ static void next_frame(struct chance *c, struct call *call, unsigned type, unsig
     pt_put48(call->frame + 4, own_of(call));
     pt_put48(call->frame + 10, call->address);
     pt_put16(call->frame + 24, 0);
-    pt_put16(call->frame + 26, subtype == PT_AUTH ? call->settings.role : 0); /* an AP is asked by transaction 1, a station answered by 2 */
+    pt_put16(call->frame + 26, subtype == PT_AUTH ? draw_transaction(c, call->settings.role) : 0);
     pt_put16(call->frame + 28, subtype == PT_AUTH ? 0 : 0xC001);
     call->frame_octets = length;
 }
@@ -86,8 +86,24 @@ static void on_at_station(struct chance *c, struct call *call, const struct pt_r
         next_frame(c, call, DATA, below(c, 13), 40);
 }
 
+/* Either asks, both at once too: a request is heard while ours is under way. Then data and actions, with any To DS and From DS. */
+static void on_ad_hoc(struct chance *c, struct call *call, const struct pt_record *r)
+{
+    if (r->phase == PT_ASKED && percent(c, 70))
+        next_primitive(call, PEER_AUTHENTICATE_RESPONSE, percent(c, 75) ? PEER_STATUS_SUCCESS : PEER_STATUS_UNSPECIFIED);
+    else if (r->phase == PT_SENT || r->state < 2 || percent(c, 30))
+        next_frame(c, call, MANAGEMENT, PT_AUTH, 30);
+    else if (percent(c, 30))
+        next_frame(c, call, MANAGEMENT, percent(c, 50) ? PT_ACTION : PT_DEAUTH, 30);
+    else
+        next_frame(c, call, DATA, below(c, 13), 40);
+    if (r->phase == PT_NONE && percent(c, 30))
+        next_primitive(call, PEER_AUTHENTICATE_REQUEST, 0);
+}
+
 static void step(struct chance *c, struct call *call, unsigned peers)
 {
+    static void (*const on[])(struct chance *, struct call *, const struct pt_record *) = { on_at_ap, on_at_station, on_ad_hoc };
     struct pt_record r;
 
     if (percent(c, 30)) {
@@ -98,10 +114,7 @@ static void step(struct chance *c, struct call *call, unsigned peers)
     }
     call->address = pool_address(below(c, peers));
     r = standing(call, call->address);
-    if (call->settings.role == PEER_AP)
-        on_at_ap(c, call, &r);
-    else
-        on_at_station(c, call, &r);
+    on[call->settings.role - PEER_AP](c, call, &r);
     call->out_octets = draw_out(c, call->kind);
 }
 
@@ -112,7 +125,7 @@ void run_walk(unsigned long number, unsigned long calls, struct chance *c)
     unsigned peers = 1 + below(c, POOL);
 
     memset(&call, 0, sizeof call);
-    call.settings = draw_settings(c, number % 2 ? PEER_AP : PEER_STATION);
+    call.settings = draw_settings(c, (uint8_t)(PEER_AP + number % 3));
     lend_usual(&call, c);
     call.table_kind = TABLE_WALK;
     call.source = "the walks";

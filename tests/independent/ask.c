@@ -12,22 +12,25 @@ enum { STATUS_UNSPECIFIED = 1 };
 /* Which codes a primitive allows. */
 enum codes { ZERO, NOT_ZERO, ANY, ZERO_OR_ONE };
 
-/* Who may ask each primitive and with which codes; role 0 is both. */
+/* The roles, a bit for each, that a primitive is for. */
+enum { AP = 1 << PT_AP, STATION = 1 << PT_STATION, AD_HOC = 1 << PT_AD_HOC };
+
+/* Who may ask each primitive and with which codes. */
 static const struct {
-    uint8_t role;
+    uint8_t roles;
     uint8_t codes;
 } primitives[PRIMITIVES + 1] = {
-    [AUTHENTICATE_REQUEST] = { PT_STATION, ZERO },
-    [AUTHENTICATE_RESPONSE] = { PT_AP, ANY },
-    [DEAUTHENTICATE] = { 0, NOT_ZERO },
-    [ASSOCIATE_REQUEST] = { PT_STATION, ZERO },
-    [REASSOCIATE_REQUEST] = { PT_STATION, ZERO },
-    [DISASSOCIATE] = { 0, NOT_ZERO },
-    [ASSOCIATE_RESPONSE] = { PT_AP, ANY },
-    [REASSOCIATE_RESPONSE] = { PT_AP, ANY },
-    [SETPROTECTION] = { 0, ZERO },
-    [TRANSMIT_REPORT] = { PT_AP, ZERO_OR_ONE },
-    [SA_QUERY] = { PT_AP, ZERO },
+    [AUTHENTICATE_REQUEST] = { STATION | AD_HOC, ZERO },
+    [AUTHENTICATE_RESPONSE] = { AP | AD_HOC, ANY },
+    [DEAUTHENTICATE] = { AP | STATION | AD_HOC, NOT_ZERO },
+    [ASSOCIATE_REQUEST] = { STATION, ZERO },
+    [REASSOCIATE_REQUEST] = { STATION, ZERO },
+    [DISASSOCIATE] = { AP | STATION, NOT_ZERO },
+    [ASSOCIATE_RESPONSE] = { AP, ANY },
+    [REASSOCIATE_RESPONSE] = { AP, ANY },
+    [SETPROTECTION] = { AP | STATION, ZERO },
+    [TRANSMIT_REPORT] = { AP, ZERO_OR_ONE },
+    [SA_QUERY] = { AP, ZERO },
 };
 
 static bool code_allowed(uint8_t codes, uint16_t code)
@@ -237,7 +240,7 @@ struct pt_answer pt_ask(const struct pt_settings *s, struct pt_record *table,
     if (primitive < 1 || primitive > PRIMITIVES || !pt_valid(peer) || peer == s->own ||
         !code_allowed(primitives[primitive].codes, code))
         return pt_refuse(PT_BAD_INPUT);
-    if (primitives[primitive].role != 0 && primitives[primitive].role != s->role)
+    if ((primitives[primitive].roles & 1 << s->role) == 0)
         return pt_refuse(PT_WRONG_ROLE);
 
     struct pt_step t = pt_begin(s, table, &view, peer, out);

@@ -1,7 +1,8 @@
 /* class.c - the class of a frame, and the least length of each kind. */
 #include "rules.h"
 
-enum { MANAGEMENT = 0, PROTECTED = 0x40 }; /* Protected is bit 14 of Frame Control */
+enum { MANAGEMENT = 0, CONTROL = 1, DATA = 2, BLOCK_ACK_REQUEST = 8, BLOCK_ACK = 9 };
+enum { TO_OR_FROM_DS = 0x03, PROTECTED = 0x40 }; /* in the second octet of Frame Control */
 
 /* The one fixed list of classes, [type][subtype]; 0 is no class. */
 static const uint8_t classes[4][16] = {
@@ -19,16 +20,38 @@ static const uint8_t least[3][16] = {
     { 24, 24, 24, 24, 24, 24, 24, 24, 24, 24, 24, 24, 24, 24, 24, 24 },
 };
 
-/* The class of a version 0 frame: by type and subtype, but an unprotected Action frame that has a
-   category, and category 4, is a Public Action: class 1. */
-unsigned pt_class_of(const uint8_t *frame, size_t len)
+/* Frames that the list has in class 3 and that are class 1 in an ad hoc network: all Action frames,
+   block ack and its request, and data from one end straight to the other. */
+static bool direct(const uint8_t *frame)
 {
     unsigned type = frame[0] >> 2 & 3, subtype = frame[0] >> 4;
 
-    if (type == MANAGEMENT && subtype == PT_ACTION && (frame[1] & PROTECTED) == 0 &&
-        len > PT_CATEGORY && frame[PT_CATEGORY] == PT_CATEGORY_PUBLIC)
+    switch (type) {
+    case MANAGEMENT:
+        return subtype == PT_ACTION || subtype == PT_ACTION_NO_ACK;
+    case CONTROL:
+        return subtype == BLOCK_ACK_REQUEST || subtype == BLOCK_ACK;
+    default:
+        return type == DATA && (frame[1] & TO_OR_FROM_DS) == 0;
+    }
+}
+
+/* An unprotected Action frame that has a category, and category 4. */
+static bool public_action(const uint8_t *frame, size_t len)
+{
+    return frame[0] >> 4 == PT_ACTION && (frame[0] >> 2 & 3) == MANAGEMENT &&
+           (frame[1] & PROTECTED) == 0 && len > PT_CATEGORY &&
+           frame[PT_CATEGORY] == PT_CATEGORY_PUBLIC;
+}
+
+/* By type and subtype, but for a Public Action in any role, and direct frames in the third. */
+unsigned pt_class_of(uint8_t role, const uint8_t *frame, size_t len)
+{
+    unsigned listed = classes[frame[0] >> 2 & 3][frame[0] >> 4];
+
+    if (listed == 3 && (public_action(frame, len) || (role == PT_AD_HOC && direct(frame))))
         return 1;
-    return classes[type][subtype];
+    return listed;
 }
 
 /* By the first octet, which has type and subtype. */

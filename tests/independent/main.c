@@ -13,8 +13,9 @@
 #include <string.h>
 
 enum { HEADER = 5, SCRATCH = 256, OUTPUT_BUFFER = 1 << 16 };
-/* Lengths: the first settings, with edition and protection behind them, with a query's times too. */
-enum { SETTINGS_FIRST = 12, SETTINGS_EDITIONS = 14, SETTINGS_QUERY = 18 };
+/* Lengths: the first settings, with edition and protection behind them, with a query's times too,
+   with a network's address too. */
+enum { SETTINGS_FIRST = 12, SETTINGS_EDITIONS = 14, SETTINGS_QUERY = 18, SETTINGS_NETWORK = 24 };
 enum record_kind { SETTINGS = 0, PRIMITIVE = 1, FRAME = 2, CLOCK = 3 };
 enum got { GOT_RECORD, GOT_END, GOT_FAULT, GOT_READ_ERROR };
 
@@ -31,12 +32,13 @@ struct bench {
     uint64_t events;
 };
 
-/* The length each kind of record must have: 12, 14 or 18, 9, a frame of 0 to 4,096, 2. */
+/* The length each kind of record must have: 12, 14, 18 or 24, 9, a frame of 0 to 4,096, 2. */
 static bool length_fits(unsigned kind, size_t length)
 {
     switch (kind) {
     case SETTINGS:
-        return length == SETTINGS_FIRST || length == SETTINGS_EDITIONS || length == SETTINGS_QUERY;
+        return length == SETTINGS_FIRST || length == SETTINGS_EDITIONS ||
+               length == SETTINGS_QUERY || length == SETTINGS_NETWORK;
     case PRIMITIVE:
         return length == 9;
     case FRAME:
@@ -68,7 +70,7 @@ static enum got read_record(struct input *in, bool first)
 
 /* Role, own address, RSNA, authentication and association timeouts, then edition and protection, 1
    and 0 where the record does not have them, then a query's retry and maximum times, 201 and 1,000
-   where it does not. Out of range is no fault here. */
+   where it does not, then the network's address, else 0. Out of range is no fault here. */
 static void take_settings(struct pt_settings *s, const uint8_t *body, size_t length)
 {
     s->role = body[0];
@@ -80,6 +82,7 @@ static void take_settings(struct pt_settings *s, const uint8_t *body, size_t len
     s->protection = length < SETTINGS_EDITIONS ? 0 : body[13];
     s->query_retry = length < SETTINGS_QUERY ? PT_QUERY_RETRY_USUAL : pt_get16(body + 14);
     s->query_maximum = length < SETTINGS_QUERY ? PT_QUERY_MAXIMUM_USUAL : pt_get16(body + 16);
+    s->network = length < SETTINGS_NETWORK ? 0 : pt_get48(body + 18);
 }
 
 /* One event, with 256 zero bytes of scratch. */

@@ -59,7 +59,7 @@ void pt_query_ask(struct pt_step *t)
 }
 
 /* An Action frame that was admitted. A query frame acts if it is long enough, to our own address and
-   from a peer in State 4: a request is answered, in either role and under any settings; a response
+   from a peer in State 4: a request is answered, wherever there is State 4 and under any settings; a response
    with the identifier of the query that runs ends it. */
 void pt_query_heard(struct pt_step *t, const uint8_t *frame, size_t len)
 {

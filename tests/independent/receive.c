@@ -28,10 +28,19 @@ static void notify(struct pt_step *t, unsigned notice, uint16_t code)
     t->a.code = code;
 }
 
-/* Step 6, the frame's class is above the peer's state: the answer to an individually addressed
-   frame. Only management frames are class 2. The record does not change. */
+/* Step 6: class 1 passes, in an ad hoc network it alone; class 2 in State 2 and above, class 3 in
+   State 3 and above. */
+static bool passes(uint8_t role, unsigned class, unsigned state)
+{
+    return class == 1 || (role != PT_AD_HOC && class <= state);
+}
+
+/* Step 6, the frame does not pass: the answer to one that is individually addressed, none in an ad
+   hoc network. Only management frames are class 2. The record does not change. */
 static void reply_to_class(struct pt_step *t, unsigned class, unsigned state, unsigned subtype)
 {
+    if (t->s->role == PT_AD_HOC)
+        return;
     if (class == 2 && t->s->role == PT_AP && is_request(subtype))
         pt_write_response(t, kind_of(subtype), STATUS_UNSPECIFIED, 0);
     else if (class == 2)
@@ -40,12 +49,10 @@ static void reply_to_class(struct pt_step *t, unsigned class, unsigned state, un
         pt_write_reason(t, state == 1 ? PT_DEAUTH : PT_DISASSOC, REASON_NOT_ASSOCIATED);
 }
 
-/* Authentication at an AP: transaction 1 only. A foreign algorithm is answered 13, a full table
+/* Authentication, transaction 1, not at a station. A foreign algorithm is answered 13, a full table
    17, both without a change; otherwise authentication is asked, whatever was under way. */
-static void authentication_at_ap(struct pt_step *t, uint16_t algorithm, uint16_t transaction)
+static void authentication_asked(struct pt_step *t, uint16_t algorithm)
 {
-    if (transaction != 1)
-        return;
     if (algorithm != 0) {
         pt_write_auth(t, algorithm, 2, STATUS_ALGORITHM);
         return;
@@ -60,17 +67,27 @@ static void authentication_at_ap(struct pt_step *t, uint16_t algorithm, uint16_t
     notify(t, PT_AUTH_INDICATION, 0);
 }
 
-/* Authentication at a station: algorithm 0, transaction 2, and authentication sent to this peer.
+/* Authentication, transaction 2, not at an AP: algorithm 0, and authentication sent to this peer.
    Success lifts State 1 to 2 and leaves higher states. */
-static void authentication_at_station(struct pt_step *t, uint16_t algorithm, uint16_t transaction,
-                                      uint16_t status)
+static void authentication_answered(struct pt_step *t, uint16_t algorithm, uint16_t status)
 {
-    if (algorithm != 0 || transaction != 2 || !has_sent(t, PT_AUTHENTICATION))
+    if (algorithm != 0 || !has_sent(t, PT_AUTHENTICATION))
         return;
     pt_exchange(t->record, PT_NONE, PT_NO_KIND, 0);
     if (status == 0 && t->record->state == 1)
         pt_move(t, 2);
     notify(t, PT_AUTH_CONFIRM, status);
+}
+
+/* Each end of an ad hoc network may ask and answer, so both rules are its own. */
+static void authentication(struct pt_step *t, const uint8_t *body)
+{
+    uint16_t algorithm = pt_get16(body), transaction = pt_get16(body + 2);
+
+    if (transaction == 1 && t->s->role != PT_STATION)
+        authentication_asked(t, algorithm);
+    if (transaction == 2 && t->s->role != PT_AP)
+        authentication_answered(t, algorithm, pt_get16(body + 4));
 }
 
 /* Deauthentication in State 2 to 4: State 1, the exchange ends, the hold stays. */
@@ -154,10 +171,7 @@ static void act(struct pt_step *t, unsigned subtype, const uint8_t *frame, size_
         disassociation(t, pt_get16(body));
         break;
     case PT_AUTH:
-        if (t->s->role == PT_AP)
-            authentication_at_ap(t, pt_get16(body), pt_get16(body + 2));
-        else
-            authentication_at_station(t, pt_get16(body), pt_get16(body + 2), pt_get16(body + 4));
+        authentication(t, body);
         break;
     case PT_DEAUTH:
         deauthentication(t, pt_get16(body));
@@ -174,12 +188,12 @@ static void act(struct pt_step *t, unsigned subtype, const uint8_t *frame, size_
 static struct pt_answer judge(struct pt_step *t, bool group, const uint8_t *frame, size_t len)
 {
     unsigned type = frame[0] >> 2 & 3, subtype = frame[0] >> 4;
-    unsigned class = pt_class_of(frame, len);
+    unsigned class = pt_class_of(t->s->role, frame, len);
     unsigned state = t->record ? t->record->state : 1; /* no record counts as State 1 */
     bool management = type == MANAGEMENT;
 
     t->a.verdict = PT_DISCARD;
-    if (state < class) {
+    if (!passes(t->s->role, class, state)) {
         if (!group)
             reply_to_class(t, class, state, subtype);
     } else if (!(management && group && (subtype <= PT_REASSOC_RESPONSE || subtype == PT_AUTH))) {
@@ -208,7 +222,7 @@ struct pt_answer pt_receive(const struct pt_settings *s, struct pt_record *table
         return pt_refuse(PT_BAD_INPUT);
 
     unsigned type = frame[0] >> 2 & 3, subtype = frame[0] >> 4;
-    if ((frame[0] & 3) != 0 || pt_class_of(frame, frame_len) == 0)
+    if ((frame[0] & 3) != 0 || pt_class_of(s->role, frame, frame_len) == 0)
         return (struct pt_answer){ .verdict = PT_DISCARD };
     if (frame_len < pt_least_length(frame[0]))
         return pt_refuse(PT_BAD_INPUT);
@@ -221,7 +235,7 @@ struct pt_answer pt_receive(const struct pt_settings *s, struct pt_record *table
         return (struct pt_answer){ .verdict = PT_ADMIT };
     if (!pt_valid(peer) || peer == s->own)
         return pt_refuse(PT_BAD_INPUT);
-    /* In either role, whatever the peer's state: a broken response is not half believed. */
+    /* In every role, whatever the peer's state: a broken response is not half believed. */
     if (type == MANAGEMENT && (subtype == PT_ASSOC_RESPONSE || subtype == PT_REASSOC_RESPONSE) &&
         !pt_elements_whole(frame, frame_len))
         return pt_refuse(PT_BAD_INPUT);

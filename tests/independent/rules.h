@@ -17,7 +17,7 @@ enum {
     PT_QUERY_RETRY_USUAL = 201, PT_QUERY_MAXIMUM_USUAL = 1000
 };
 
-enum pt_role { PT_AP = 1, PT_STATION = 2 };
+enum pt_role { PT_AP = 1, PT_STATION = 2, PT_AD_HOC = 3 };
 enum pt_phase { PT_NONE = 0, PT_ASKED = 1, PT_AWAITING = 2, PT_SENT = 3 };
 enum pt_kind { PT_NO_KIND = 0, PT_AUTHENTICATION = 1, PT_ASSOCIATION = 2, PT_REASSOCIATION = 3 };
 /* An SA Query: none, running with its request sent, running with a request due, timed out. */
@@ -43,7 +43,8 @@ enum pt_refusal {
 /* Management subtypes of the standard that the rules name. */
 enum pt_subtype {
     PT_ASSOC_REQUEST = 0, PT_ASSOC_RESPONSE = 1, PT_REASSOC_REQUEST = 2,
-    PT_REASSOC_RESPONSE = 3, PT_DISASSOC = 10, PT_AUTH = 11, PT_DEAUTH = 12, PT_ACTION = 13
+    PT_REASSOC_RESPONSE = 3, PT_DISASSOC = 10, PT_AUTH = 11, PT_DEAUTH = 12, PT_ACTION = 13,
+    PT_ACTION_NO_ACK = 14
 };
 
 /* SA Query actions, the octet behind category 8. */
@@ -62,6 +63,7 @@ struct pt_settings {
     uint8_t protection; /* management frames are protected; edition 1 does not look at it */
     uint32_t query_retry;   /* an SA Query's request is due at its start and each time this passes */
     uint32_t query_maximum; /* from a query's start until it times out */
+    uint64_t network;       /* the ad hoc network's address; the other two roles do not look at it */
 };
 
 /* One place of the table. A free place is all zero. */
@@ -120,8 +122,8 @@ struct pt_step {
     struct pt_answer a;
 };
 
-/* The class of a version 0 frame, 0 for none, and the least length of one that has a class. */
-unsigned pt_class_of(const uint8_t *frame, size_t len);
+/* The class of a version 0 frame in a role, 0 for none, and the least length of one that has a class. */
+unsigned pt_class_of(uint8_t role, const uint8_t *frame, size_t len);
 unsigned pt_least_length(uint8_t first);
 
 /* Checks settings and table, every clause, and looks for `peer` on the way. */

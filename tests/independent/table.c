@@ -9,13 +9,13 @@ static bool in_range(uint32_t time)
     return time - 1 < PT_TIME_MAX;
 }
 
-/* Settings in range: role 1 or 2, RSNA 0 or 1, own address valid, edition 1 or 2, protection 0 or
-   1, and all four times. */
+/* Settings in range: role 1 to 3, RSNA 0 or 1, own address valid, edition 1 or 2, protection 0 or
+   1, and all four times; in an ad hoc network its address is valid, and may be our own. */
 static bool settings_fit(const struct pt_settings *s)
 {
-    return (s->role == PT_AP || s->role == PT_STATION) && s->rsna <= 1 && pt_valid(s->own) &&
-           in_range(s->auth_timeout) && in_range(s->assoc_timeout) &&
-           (s->edition == 1 || s->edition == 2) && s->protection <= 1 &&
+    return s->role >= PT_AP && s->role <= PT_AD_HOC && s->rsna <= 1 && pt_valid(s->own) &&
+           (s->role != PT_AD_HOC || pt_valid(s->network)) && in_range(s->auth_timeout) &&
+           in_range(s->assoc_timeout) && (s->edition == 1 || s->edition == 2) && s->protection <= 1 &&
            in_range(s->query_retry) && in_range(s->query_maximum);
 }
 
@@ -36,20 +36,24 @@ static bool exchange_fits(uint8_t role, const struct pt_record *r)
     /* A (re)association exchange stands in State 2 or above only. */
     if (r->kind != PT_AUTHENTICATION && r->state < 2)
         return false;
-    /* A station has sent exchanges only, each with 1 to 65,535 TU left. */
-    if (role == PT_STATION)
-        return r->phase == PT_SENT && in_range(r->left);
-    /* An AP's are asked, or await an acknowledgement (not authentication); no time runs. */
-    return r->left == 0 && (r->phase == PT_ASKED ||
-                            (r->phase == PT_AWAITING && r->kind != PT_AUTHENTICATION));
+    /* In an ad hoc network there is authentication alone, asked or sent. */
+    if (role == PT_AD_HOC && r->kind != PT_AUTHENTICATION)
+        return false;
+    /* What we have sent, not as an AP, has 1 to 65,535 TU left. */
+    if (r->phase == PT_SENT)
+        return role != PT_AP && in_range(r->left);
+    /* What is asked, not of a station, or awaits an acknowledgement (at an AP, not authentication)
+       has no time that runs. */
+    return r->left == 0 && (r->phase == PT_ASKED ? role != PT_STATION :
+                            r->phase == PT_AWAITING && role == PT_AP && r->kind != PT_AUTHENTICATION);
 }
 
-/* What one record that is not free must satisfy, apart from the other records. */
+/* What one record that is not free must satisfy, apart from the other records. There are no states
+   over 2 in an ad hoc network. */
 static bool record_fits(const struct pt_settings *s, const struct pt_record *r)
 {
-    return r->state >= 1 && r->state <= 4 && pt_valid(r->address) && r->address != s->own &&
-           (s->role == PT_STATION || r->hold == 0) && exchange_fits(s->role, r) &&
-           pt_query_fits(s, r);
+    return r->state >= 1 && r->state <= (s->role == PT_AD_HOC ? 2 : 4) && pt_valid(r->address) &&
+           r->address != s->own && (s->role != PT_AP || r->hold == 0) && exchange_fits(s->role, r) && pt_query_fits(s, r);
 }
 
 bool pt_look(const struct pt_settings *s, const struct pt_record *table, uint64_t peer,
@@ -136,8 +140,8 @@ static void write_report(uint8_t *p, int place, uint8_t kind, uint64_t address)
 }
 
 /* Lowers the time left of an exchange; where that falls to 0 the exchange ends, and its kind is
-   what to report. Authentication keeps the state, the others set State 2. Only a station's exchange
-   has a time, so there is nothing to tell the distribution system. */
+   what to report. Authentication keeps the state, the others set State 2. No exchange of an AP has
+   a time, so there is nothing to tell the distribution system. */
 static uint8_t age_exchange(struct pt_record *r, uint32_t step)
 {
     uint8_t kind = r->kind;
@@ -161,8 +165,8 @@ static bool is_idle(const struct pt_record *r)
 }
 
 /* Refusals 1, 2, 3; then one pass in rising place. What befalls one record does not touch another,
-   so lowering, ending and freeing record by record comes to the order the rules give. An exchange
-   has a time at a station only and a query is at an AP only: a record has one report at most. */
+   so lowering, ending and freeing record by record comes to the order the rules give. No exchange
+   of an AP has a time, and a query is at an AP only: a record has one report at most. */
 struct pt_answer pt_clock(const struct pt_settings *s, struct pt_record *table,
                           uint16_t step, uint8_t *out, size_t out_len)
 {
@@ -178,7 +182,7 @@ struct pt_answer pt_clock(const struct pt_settings *s, struct pt_record *table,
 
     for (int i = 0; i < PT_PLACES; i++) {
         struct pt_record *r = &table[i];
-        uint8_t kind = s->role == PT_STATION ? age_exchange(r, step) : pt_query_age(s, r, step);
+        uint8_t kind = s->role == PT_AP ? pt_query_age(s, r, step) : age_exchange(r, step);
 
         r->hold -= r->hold < step ? r->hold : step;
         if (kind != 0) {

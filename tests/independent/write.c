@@ -3,8 +3,16 @@
 
 #include <string.h>
 
-/* The 24 octets before each body: duration 0, Address 1 the peer, Address 2 own, Address 3 the
-   AP's, sequence control 0. Gives the place of the body. */
+/* Address 3: the AP's, which is our own or the peer's, or the ad hoc network's. */
+static uint64_t third(const struct pt_step *t)
+{
+    if (t->s->role == PT_AD_HOC)
+        return t->s->network;
+    return t->s->role == PT_AP ? t->s->own : t->peer;
+}
+
+/* The 24 octets before each body: duration 0, Address 1 the peer, Address 2 own, Address 3, sequence
+   control 0. Gives the place of the body. */
 static uint8_t *write_head(struct pt_step *t, unsigned subtype)
 {
     uint8_t *p = t->out;
@@ -13,7 +21,7 @@ static uint8_t *write_head(struct pt_step *t, unsigned subtype)
     p[0] = (uint8_t)(subtype << 4);
     pt_put48(p + 4, t->peer);
     pt_put48(p + 10, t->s->own);
-    pt_put48(p + 16, t->s->role == PT_AP ? t->s->own : t->peer);
+    pt_put48(p + 16, third(t));
     return p + 24;
 }
 

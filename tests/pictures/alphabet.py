@@ -13,6 +13,7 @@ from tools import bench_input as bench
 OWN = bench.address("02:00:00:00:00:0a")
 PEER = bench.address("02:00:00:00:01:01")
 OTHER = bench.address("02:00:00:00:01:02")
+NETWORK = bench.address("06:00:00:00:00:ad")
 TIMEOUT = 100
 QUERY_RETRY, QUERY_MAXIMUM = 30, 100
 LONGEST_STEP = 65535
@@ -130,13 +131,21 @@ def actions(about):
             for octets, given, cause in kinds for to in (OWN, bench.BROADCAST)]
 
 
+def relayed(about):
+    """Data to, from and between distribution systems: an ad hoc network tells it from data straight
+    from one end to the other."""
+    return [Event("frame", "relayed data", about, bench.frame(
+        bench.data(to, about, b"", subtype, ds & 1, ds >> 1)))
+        for subtype in (0, 8) for ds in (1, 2, 3) for to in (OWN, bench.BROADCAST)]
+
+
 def other_frames(about):
     """Every type and subtype that has no rule of its own, long enough for any of them."""
     acting = {0, 1, 2, 3, 10, 11, 12}
     return [Event("frame", f"type {kind} subtype {subtype}", about,
                   bench.frame(bench.any_frame(kind, subtype, to, about, 40)))
             for kind in range(4) for subtype in range(16) for to in (OWN, bench.BROADCAST)
-            if kind or subtype not in acting] + actions(about) + queries(about)
+            if kind or subtype not in acting] + actions(about) + queries(about) + relayed(about)
 
 
 @functools.lru_cache(maxsize=None)

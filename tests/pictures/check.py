@@ -16,9 +16,6 @@ from tools.pictures import make, move_list, scenes
 
 from . import situations
 
-EVERY_SIDE = ("station", "ap")
-
-
 def told(said):
     """The octets written, in hexadecimal, and the one record's hold and query, of an event's lines."""
     octets = "".join(line.split()[1] for line in said if line.startswith("  octets "))
@@ -47,7 +44,7 @@ def played(name, scene, side, command):
 def unsent(name, steps):
     """Frames of a scene with two sides that the other side's table did not write: only those
     that no table writes, ACK and data, and forged ones."""
-    if {step.side for step in steps} != set(EVERY_SIDE):
+    if len({step.side for step in steps}) < 2:
         return []
     written = {step.sent for step in steps}
     heard = [step.event[1] for step in steps if step.event[0] == "hear" and not step.forged]
@@ -65,9 +62,8 @@ def main():
     try:
         for name, scene in scenes.SCENES.items():
             faults += unsent(name, scene.steps)
-            for side in EVERY_SIDE:
-                if any(step.side == side for step in scene.steps):
-                    faults += played(name, scene, side, command)
+            for side in sorted({step.side for step in scene.steps}):
+                faults += played(name, scene, side, command)
         faults += [f"{name} is not as tools/pictures/make.py makes it" for name in make.stale()]
     except (move_list.Fault, situations.Trouble) as fault:
         faults.append(str(fault))

@@ -20,9 +20,11 @@ from tools.pictures import move_list
 from . import situations
 
 ROLES = {number: word for word, number in move_list.ROLES.items()}
-# Kinds of frames of each class.
-PROBES = {"type 0 subtype 8": 1, "Public Action": 1, "Disassociation": 2, "type 2 subtype 0": 3,
-          "Action": 3, "Action No Ack": 3, "SA Query request": 3}
+# Kinds of frames, each with its class; some are of another one in an ad hoc network.
+PROBES = {"type 0 subtype 8": 1, "Public Action": 1, "Disassociation": 2, "type 1 subtype 10": 3,
+          "relayed data": 3}
+DIRECT = ("type 2 subtype 0", "type 1 subtype 8", "type 1 subtype 9", "Action", "Action No Ack",
+          "SA Query request")
 QUERIES = {number: word for word, number in move_list.QUERIES.items()}
 
 
@@ -34,17 +36,17 @@ def expanded(lines):
                     for line in lines.queries for rsna in line.rsna for rule in line.rule}
 
 
-def passing(turns):
-    """For each state the classes that pass; a class is asked by its probe."""
-    seen = {}
+def passing(role, turns):
+    """For each state of a role the classes that pass; a class is asked by its probes."""
+    probes, seen = {**PROBES, **dict.fromkeys(DIRECT, 1 if role == bench.AD_HOC else 3)}, {}
     for turn in turns:
-        klass = PROBES.get(turn.event.cause)
+        klass = probes.get(turn.event.cause)
         if klass and turn.event.about == situations.PEER:
             seen.setdefault((turn.before[0].state, klass), set()).add(turn.verdict)
     for (state, klass), verdicts in seen.items():
         if len(verdicts) > 1:
             raise situations.Trouble(f"class {klass} in state {state} is sometimes admitted only")
-    return {(state, klass) for (state, klass), verdicts in seen.items() if verdicts == {"A"}}
+    return {(role, *place) for place, verdicts in seen.items() if verdicts == {"A"}}
 
 
 def settings_words(role, rsna, rule):
@@ -71,7 +73,7 @@ def derived(command):
         fault = situations.one_cause_one_outcome(turns)
         if fault:
             raise situations.Trouble(f"{settings_words(role, rsna, rule)}: {fault}")
-        passes |= passing(turns)
+        passes |= passing(role, turns)
         counts[0] += len({situations.situation(turn.before) for turn in turns})
         counts[1] += len(turns)
         for turn in turns:
@@ -91,11 +93,12 @@ def main():
     except (move_list.Fault, situations.Trouble) as fault:
         sys.exit(f"moves: {fault}")
     wanted = expanded(lines)
-    in_list = {(state, klass) for state, classes in lines.passes.items() for klass in classes}
+    in_list = {(role, state, klass) for role, states in lines.passes.items()
+               for state, classes in states.items() for klass in classes}
     faults = sorted(f"made and not in the list: {shown(move)}" for move in made - wanted)
     faults += sorted(f"in the list and never made: {shown(move)}" for move in wanted - made)
-    faults += [f"class {klass} in state {state}: the list and the program differ"
-               for state, klass in sorted(passes ^ in_list)]
+    faults += [f"{ROLES[role]}: class {klass} in state {state}: the list and the program differ"
+               for role, state, klass in sorted(passes ^ in_list)]
     ending.tell(f"{counts[0]} situations, {counts[1]} events tried, {len(made)} moves", faults)
 
 

@@ -11,8 +11,8 @@ import subprocess
 
 from tools import bench_input as bench
 
-from .alphabet import (LONGEST_STEP, OTHER, OWN, PEER, QUERY_MAXIMUM, QUERY_RETRY, TIMEOUT, clocks,
-                       events)
+from .alphabet import (LONGEST_STEP, NETWORK, OTHER, OWN, PEER, QUERY_MAXIMUM, QUERY_RETRY, TIMEOUT,
+                       clocks, events)
 
 PLACE = re.compile(r"  place \d+ ([0-9a-f]{12}) (\d+) (\d+) (\d+) (\d+)")
 QUERY = re.compile(r"  query \d+ (\d+) (\d+) (\d+)")
@@ -75,8 +75,8 @@ def situation(both):
 
 
 def alphabet(role, now):
-    """All events about the peer and, at a station, about the other: at an access point no event
-    looks at another record. Frames without a rule are tried where the other has no record."""
+    """All events about the peer and, at a station, about the other: elsewhere no event looks at
+    another record. Frames without a rule are tried where the other has no record."""
     others = events(OTHER, False) if role == bench.STATION else []
     return events(PEER, now[1][0] == 0) + others + clocks()
 
@@ -84,8 +84,8 @@ def alphabet(role, now):
 def tried(command, role, rsna, rule, found):
     """One turn for each event in each of the situations found, each begun from an empty table. The
     rule is edition and protection."""
-    times = TIMEOUT, TIMEOUT, *rule, QUERY_RETRY, QUERY_MAXIMUM
-    records, trials = [bench.settings(role, OWN, rsna, *times)], []
+    words = TIMEOUT, TIMEOUT, *rule, QUERY_RETRY, QUERY_MAXIMUM, NETWORK
+    records, trials = [bench.settings(role, OWN, rsna, *words)], []
     for now, path in found.items():
         for event in alphabet(role, now):
             records += RESET + path + [event.octets]

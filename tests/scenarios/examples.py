@@ -20,6 +20,7 @@ ROOT = pathlib.Path(__file__).resolve().parents[2]
 EXAMPLES = ROOT / "examples"
 # Settings, an event, its refusal and what is told of that.
 GOOD = "ap own=02:00:00:00:00:01"
+AD_HOC, NETWORK = "ad-hoc own=02:00:00:00:00:01", "06:00:00:00:00:ad"
 SETTINGS = "the settings are not well formed"
 ASKED = "unknown primitive, peer address invalid or our own, or code not allowed"
 HEARD = "too short, Address 2 is invalid or our own, or a response whose elements do not end with it"
@@ -27,6 +28,12 @@ REFUSED = [
     (f"{GOOD} rsna=2", "clock 1", 2, SETTINGS), (f"{GOOD} timeouts=0,1", "clock 1", 2, SETTINGS),
     (f"{GOOD} timeouts=1,0", "frame ack", 2, SETTINGS), ("ap own=broadcast", "clock 1", 2, SETTINGS),
     ("settings role=3 own=02:00:00:00:00:01", "clock 1", 2, SETTINGS),
+    (f"{AD_HOC} network=broadcast", "clock 1", 2, SETTINGS),
+    (f"{AD_HOC} network={NETWORK} rsna=2", "frame ack", 2, SETTINGS),
+    (f"settings role=4 own=02:00:00:00:00:01 network={NETWORK}", "clock 1", 2, SETTINGS),
+    (f"{AD_HOC} network={NETWORK}", "prim associate 02:00:00:00:00:0a", 5, "this primitive is not for an ad hoc network"),
+    (f"{AD_HOC} network={NETWORK}", "prim set-protection 02:00:00:00:00:0a code=1", 3, ASKED),
+    (f"{AD_HOC} network=own", "prim respond-authenticate 02:00:00:00:00:0a", 7, "the peer has not asked for authentication"),
     (f"{GOOD} edition=0", "clock 1", 2, SETTINGS), (f"{GOOD} edition=3 protection=1", "frame ack", 2, SETTINGS),
     (f"{GOOD} protection=2", "clock 1", 2, SETTINGS),
     (f"{GOOD} query-retry=0", "clock 1", 2, SETTINGS), (f"{GOOD} query-maximum=0", "frame ack", 2, SETTINGS),

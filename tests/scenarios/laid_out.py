@@ -53,20 +53,29 @@ def frames_as_laid_out():
     rsna = event(f"frame assoc-request from={PEER}", f"ap own={OWN} rsna=1")
     if rsna.frame != bench.association_request(OWN, PEER, capability=0x0011):
         faults.append("assoc-request where RSNA is required")
+    ad_hoc = f"ad-hoc own={OWN} network={OTHER}"
+    if event(f"frame data from={PEER}", ad_hoc).frame != b"\x08" + bytes(3) + bench.address(OWN) \
+            + bench.address(PEER) + bench.address(OTHER) + bytes(2):
+        faults.append("data in an ad hoc network")
+    if read.read(ad_hoc, "test")[1][0].settings.record != bench.settings(3, OWN, network=OTHER):
+        faults.append("settings of an ad hoc network")
     return faults + [f"frame {words}" for words, octets in pairs
                      if event(f"frame {words} from={PEER}").frame != octets]
 
 
 def settings_as_laid_out():
     """Each word of the settings in its place: a record of 12 octets, of 14 where edition or protection
-    is given, of 18 where a time of a query is. A second settings line begins a second bench input."""
+    is given, of 18 where a time of a query is, of 24 where a network's address is. A second settings
+    line begins a second bench input."""
     first = b"\1" + bench.address(OWN)
     pairs = [("", b"\0d\0d\0"), ("rsna=1", b"\1d\0d\0"), ("timeouts=7,9", b"\0\7\0\x09\0"),
              ("edition=1", b"\0d\0d\0\1\0"), ("edition=2", b"\0d\0d\0\2\0"),
              ("protection=1", b"\0d\0d\0\1\1"), ("protection=255 edition=0", b"\0d\0d\0\0\xff"),
              ("query-retry=7", b"\0d\0d\0\1\0\7\0\xe8\3"),
              ("query-maximum=65535", b"\0d\0d\0\1\0\xc9\0\xff\xff"),
-             ("query-maximum=0 query-retry=256 edition=2", b"\0d\0d\0\2\0\0\1\0\0")]
+             ("query-maximum=0 query-retry=256 edition=2", b"\0d\0d\0\2\0\0\1\0\0"),
+             (f"network={OTHER}", b"\0d\0d\0\1\0\xc9\0\xe8\3" + bench.address(OTHER)),
+             ("network=broadcast edition=2", b"\0d\0d\0\2\0\xc9\0\xe8\3" + bench.BROADCAST)]
     faults = []
     for words, rest in pairs:
         lines = read.read(f"ap own={OWN} {words}\n", "test")[1]

@@ -92,7 +92,7 @@ def frames_round_trip():
 def generated_frames_round_trip():
     """Frames of the generated walks: what is read from their octets writes the same octets."""
     faults, read_back = [], 0
-    for job in generate.plan(1, GENERATED, "ap") + generate.plan(1, GENERATED, "station"):
+    for job in [job for role in generate.ROLES for job in generate.plan(1, GENERATED, role)]:
         octets = generate.make(job)
         while octets:
             end = bench.HEAD + int.from_bytes(octets[3:5], "little")

@@ -6,9 +6,9 @@ START = ["ap own=02:00:00:00:00:01", "name p = 02:00:00:00:00:0a", "name s-1..3 
 LINES = [
     ("fram data from=p", "'fram' is no word to begin a line: did you mean 'frame'?"),
     ("\x1b[2J", "'?[2J' is no word to begin a line: "
-     "one of name, ap, station, settings, frame, prim, clock"),
+     "one of name, ap, station, ad-hoc, settings, frame, prim, clock"),
     ("reboot", "'reboot' is no word to begin a line: "
-     "one of name, ap, station, settings, frame, prim, clock"),
+     "one of name, ap, station, ad-hoc, settings, frame, prim, clock"),
     ("ap", "ap needs own=ADDRESS, our own address"),
     ("frame", "frame needs a word for its kind, as auth-request, or raw and octets"),
     ("frame auth-requst from=p", "'auth-requst' is no frame: did you mean 'auth-request'?"),
@@ -107,20 +107,29 @@ LINES = [
 
 # Whole scenarios, with the number of the line at fault.
 WHOLE = [
-    ("", 1, "no settings: the first line is ap, station or settings"),
-    ("# a comment\n\n", 1, "no settings: the first line is ap, station or settings"),
-    ("clock 1\n", 1, "'clock' comes before the settings: the first line is ap, station or settings"),
+    ("", 1, "no settings: the first line is ap, station, ad-hoc or settings"),
+    ("# a comment\n\n", 1, "no settings: the first line is ap, station, ad-hoc or settings"),
+    ("clock 1\n", 1, "'clock' comes before the settings: the first line is ap, station, ad-hoc or settings"),
     ("frame data from=own\n", 1,
-     "'frame' comes before the settings: the first line is ap, station or settings"),
+     "'frame' comes before the settings: the first line is ap, station, ad-hoc or settings"),
     ("ap\n", 1, "ap needs own=ADDRESS, our own address"),
     ("station rsna=1\n", 1, "station needs own=ADDRESS, our own address"),
     ("ap own=02:00:00:00:00:01 role=1\n", 1,
      "'role' is no field of ap: one of own, rsna, timeouts, edition, protection, query-retry, "
-     "query-maximum"),
+     "query-maximum, network"),
     ("ap own=02:00:00:00:00:01 query-retry=65536\n", 1, "query-retry: 65536 does not fit: 0 to 65535"),
     ("ap own=02:00:00:00:00:01 query-max=9\n", 1,
      "'query-max' is no field of ap: did you mean 'query-maximum'?"),
-    ("settings own=02:00:00:00:00:01\n", 1, "settings needs role=N: 1 is an AP, 2 a station"),
+    ("settings own=02:00:00:00:00:01\n", 1, "settings needs role=N: 1 is an AP, 2 a station, 3 ad hoc"),
+    ("ad-hoc own=02:00:00:00:00:01\n", 1, "ad-hoc needs network=ADDRESS, the address of the network"),
+    ("ad-hoc network=06:00:00:00:00:ad\n", 1, "ad-hoc needs own=ADDRESS, our own address"),
+    ("adhoc own=02:00:00:00:00:01\n", 1, "'adhoc' is no word to begin a line: did you mean 'ad-hoc'?"),
+    ("ad-hoc own=02:00:00:00:00:01 net=06:00:00:00:00:ad\n", 1,
+     "'net' is no field of ad-hoc: did you mean 'network'?"),
+    ("ad-hoc own=02:00:00:00:00:01 network=yard\n", 1,
+     "network: no address has the name 'yard': 'name yard = ..' gives one"),
+    ("name n-1..2 = 06:00:00:00:00:01\nad-hoc own=02:00:00:00:00:01 network=n-1..2\n", 2,
+     "network: 'n-1..2' is 2 addresses: one is wanted here"),
     ("ap own=02:00:00:00:00:01 rsna=256\n", 1, "rsna: 256 does not fit: 0 to 255"),
     ("ap own=02:00:00:00:00:01 edition=256\n", 1, "edition: 256 does not fit: 0 to 255"),
     ("ap own=02:00:00:00:00:01 edition=2 edition=1\n", 1, "edition is given twice: once is enough"),

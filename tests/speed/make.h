@@ -53,5 +53,6 @@ void make_joins_station(struct maker *m, unsigned peers);
 void make_clock_ap(struct maker *m, unsigned peers);
 void make_clock_station(struct maker *m, unsigned peers);
 void make_forged_ap(struct maker *m, unsigned peers);
+void make_ad_hoc(struct maker *m, unsigned peers);
 
 #endif

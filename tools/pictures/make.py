@@ -5,7 +5,7 @@ With --check it names those that are otherwise.
 
 import sys
 
-from . import charts, forged, move_list, states
+from . import charts, crossing, forged, move_list, states
 
 FOLDER = move_list.LIST.parent
 
@@ -13,9 +13,10 @@ FOLDER = move_list.LIST.parent
 def pictures():
     """The text of each picture by its file's name; a fault where words would overlap."""
     lines = move_list.read()
-    canvases = {"states_ap": states.picture(1, lines), "states_station": states.picture(2, lines),
-                "join": charts.join(), "comeback": charts.comeback(),
-                "forged_rejoin": forged.forged_rejoin()}
+    canvases = {f"states_{name.replace('-', '_')}": states.picture(role, lines)
+                for name, role in move_list.ROLES.items()}
+    canvases |= {"join": charts.join(), "comeback": charts.comeback(),
+                 "forged_rejoin": forged.forged_rejoin(), "crossing": crossing.crossing()}
     for name, canvas in canvases.items():
         if canvas.faults():
             raise move_list.Fault(f"{name}: " + "; ".join(canvas.faults()))

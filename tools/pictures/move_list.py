@@ -6,19 +6,21 @@ import pathlib
 ROOT = pathlib.Path(__file__).resolve().parent.parent.parent
 LIST = ROOT / "docs" / "pictures" / "moves.txt"
 
-ROLES = {"ap": 1, "station": 2}
+ROLES = {"ap": 1, "station": 2, "ad-hoc": 3}
 RSNA = {"0": (0,), "1": (1,), "any": (0, 1)}
 # The rules by edition and protection.
 RULES = {"1": ((1, 0), (1, 1)), "2": ((2, 0),), "2p": ((2, 1),),
          "any": ((1, 0), (1, 1), (2, 0), (2, 1))}
 STATES = {"none": 0, "1": 1, "2": 2, "3": 3, "4": 4}
+# The states that each role has, by name.
+STATES_OF = {"ap": tuple(STATES), "station": tuple(STATES), "ad-hoc": ("none", "1", "2")}
 QUERIES = {"none": 0, "sent": 1, "due": 2, "timed-out": 3}
 COLUMNS, QUERY_COLUMNS = 9, 7
 
 # One line of the list; `rsna`, `rule` and `hold` are tuples, states are numbers and 0 is no record.
 Listed = collections.namedtuple("Listed", "role rsna rule before after ds hold by cause")
 ListedQuery = collections.namedtuple("ListedQuery", "rsna rule before after by cause")
-# The whole list; `passes` has for each state the classes that pass.
+# The whole list; `passes` has for each role and state the classes that pass.
 List = collections.namedtuple("List", "moves queries passes")
 
 
@@ -55,7 +57,7 @@ def listed_query(number, line):
 
 def read(path=LIST):
     """The whole list."""
-    moves, queries, passes = [], [], {}
+    moves, queries, passes = [], [], {role: {} for role in ROLES.values()}
     try:
         lines = path.read_text().splitlines()
     except OSError as fault:
@@ -68,11 +70,13 @@ def read(path=LIST):
         if words[0] == "query":
             queries.append(listed_query(number, line))
         elif words[0] == "passes":
-            state = one_of(number, "state", " ".join(words[1:2]), STATES)
-            passes[state] = tuple(int(one_of(number, "class", word, "123")) for word in words[2:])
+            role, state, *classes = words[1:] if len(words) > 2 else ("", "")
+            passes[one_of(number, "role", role, ROLES)][one_of(number, "state", state, STATES)] = tuple(
+                int(one_of(number, "class", word, "123")) for word in classes)
         else:
             moves.append(listed(number, words))
-    missing = [name for name, state in STATES.items() if state not in passes]
+    missing = [(role, name) for role, names in STATES_OF.items() for name in names
+               if STATES[name] not in passes[ROLES[role]]]
     if missing:
-        raise Fault(f"{path.name}: no line says what passes in state {missing[0]}")
+        raise Fault(f"{path.name}: no line says what passes in state {missing[0][1]}, {missing[0][0]}")
     return List(moves, queries, passes)

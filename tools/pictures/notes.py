@@ -47,6 +47,22 @@ def one_at_a_time(moves, _):
     return seen == {(3, 2), (4, 2)}
 
 
+def either_asks(moves, _):
+    """A record is made by a request that is heard and by one of our own, and by nothing else."""
+    return {(move.by, move.cause) for move in moves if move.before == 0} == {
+        ("frame", "Authentication, transaction 1"), ("primitive-1", "AUTHENTICATE.request")}
+
+
+def either_answers(moves, _):
+    """Our own answer leads to State 2, and so does the answer to us."""
+    return {move.by for move in moves if move.after == 2} == {"primitive-2", "frame"}
+
+
+def no_association(moves, _):
+    return all(move.after < 3 for move in moves)
+
+
+FREED = (("A place is freed by the clock alone,", "never by a deauthentication."), freed_by_clock)
 REPEATED = (("A repeated authentication keeps States 2 to 4.",), authentication_keeps)
 NOTES = {
     1: ((("The response moves nothing: the state rises", "at the report of its acknowledgement."),
@@ -56,12 +72,16 @@ NOTES = {
           "moves nothing."), protected_rejection_keeps),
         (("In edition 2 with protection a request in", "State 4 is answered with status 30 and moves",
           "nothing: an SA Query asks the peer first."), query_keeps_out),
-        (("A place is freed by the clock alone,", "never by a deauthentication."),
-         freed_by_clock)),
+        FREED),
     2: ((("A success with an AID outside 1 to 2007", "moves nothing."), bad_aid_does_nothing),
         REPEATED,
         (("One AP at a time is in State 3 or 4:", "a success at another lowers the first."),
          one_at_a_time)),
+    3: ((("Either end may ask: a request that is heard", "makes a record, and so does one of our own."),
+         either_asks),
+        (("Our own answer leads to State 2, and so does", "the answer to our request."), either_answers),
+        (("There is no association: State 2 is the highest.",), no_association),
+        FREED),
 }
 
 

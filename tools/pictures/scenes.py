@@ -10,8 +10,12 @@ from tools import bench_input as bench
 
 AP = bench.address("02:00:00:00:00:01")
 STATION = bench.address("02:00:00:00:00:0a")
-OWN = {"ap": AP, "station": STATION}
-ROLE = {"ap": bench.ACCESS_POINT, "station": bench.STATION}
+ONE, TWO = bench.address("02:00:00:00:01:01"), bench.address("02:00:00:00:01:02")
+NETWORK = bench.address("06:00:00:00:00:ad")
+# Each side's own address, its peer's, and its role.
+OWN = {"ap": AP, "station": STATION, "one": ONE, "two": TWO}
+PEER = {"ap": STATION, "station": AP, "one": TWO, "two": ONE}
+ROLE = {"ap": bench.ACCESS_POINT, "station": bench.STATION, "one": bench.AD_HOC, "two": bench.AD_HOC}
 
 # side: whose table; event: ("ask", primitive, code), ("hear", octets) or ("clock", TU);
 # answer: the bench line without its number; sent: the octets written; hold and query: the peer's after
@@ -22,9 +26,9 @@ Step = collections.namedtuple("Step", "side event answer sent hold query forged"
 Scene = collections.namedtuple("Scene", "steps rule", defaults=((),))
 
 
-def authentication(to, sender, transaction):
+def authentication(to, sender, transaction, third=AP):
     fields = b"".join(bench.number(field) for field in (0, transaction, 0))
-    return bench.management(bench.AUTHENTICATION, to, sender, fields, third=AP)
+    return bench.management(bench.AUTHENTICATION, to, sender, fields, third)
 
 
 def rejection(comeback):
@@ -117,18 +121,48 @@ UNANSWERED = BEGUN + (
 )
 
 
+# Two scanners of an ad hoc network ask at once: each answers the other's request, and the answer to
+# its own does nothing then.
+REQUEST_1, REQUEST_2 = (authentication(PEER[side], OWN[side], 1, NETWORK) for side in ("one", "two"))
+ANSWER_1, ANSWER_2 = (authentication(PEER[side], OWN[side], 2, NETWORK) for side in ("one", "two"))
+DIRECT_1, DIRECT_2 = (bench.header(bench.frame_control(bench.DATA, 0), PEER[side], OWN[side], NETWORK)
+                      for side in ("one", "two"))
+BOTH_ASK = (
+    Step("one", ("ask", 1, 0), "0 - 0 0 30 - 1", REQUEST_1),
+    Step("two", ("ask", 1, 0), "0 - 0 0 30 - 1", REQUEST_2),
+    Step("two", ("hear", REQUEST_1), "0 A 1 0 0 - 1"),
+    Step("one", ("hear", REQUEST_2), "0 A 1 0 0 - 1"),
+    Step("one", ("ask", 2, 0), "0 - 0 0 30 - 2", ANSWER_1),
+    Step("two", ("ask", 2, 0), "0 - 0 0 30 - 2", ANSWER_2),
+    Step("two", ("hear", ANSWER_1), "0 A 0 0 0 - 2"),
+    Step("one", ("hear", ANSWER_2), "0 A 0 0 0 - 2"),
+    Step("two", ("hear", DIRECT_1), "0 A 0 0 0 - 2"),
+    Step("one", ("hear", DIRECT_2), "0 A 0 0 0 - 2"),
+)
+BOTH_ASK_PARTS = {0: "Both ask", 2: "Both are asked", 4: "Both answer", 8: "Lists, as data"}
+
+# Not drawn, but what the chart says of a scanner that asks alone rests on it.
+ONE_ASKS = (
+    Step("one", ("ask", 1, 0), "0 - 0 0 30 - 1", REQUEST_1),
+    Step("two", ("hear", REQUEST_1), "0 A 1 0 0 - 1"),
+    Step("two", ("ask", 2, 0), "0 - 0 0 30 - 2", ANSWER_2),
+    Step("one", ("hear", ANSWER_2), "0 A 2 0 0 - 2"),
+)
+
+
 def record(step):
     """The bench record of a step; a primitive is about the other side."""
     kind, *rest = step.event
     if kind == "ask":
-        return bench.primitive(rest[0], AP if step.side == "station" else STATION, rest[1])
+        return bench.primitive(rest[0], PEER[step.side], rest[1])
     return bench.frame(rest[0]) if kind == "hear" else bench.clock(rest[0])
 
 
 def bench_input(scene, side):
     """The bench input of one side's steps."""
     rule = scene.rule if side == "ap" else ()
-    return b"".join([bench.settings(ROLE[side], OWN[side], 0, 100, 100, *rule)]
+    network = NETWORK if ROLE[side] == bench.AD_HOC else None
+    return b"".join([bench.settings(ROLE[side], OWN[side], 0, 100, 100, *rule, network=network)]
                     + [record(step) for step in scene.steps if step.side == side])
 
 
@@ -138,4 +172,5 @@ SCENES = {"join": Scene(JOIN), "comeback 0": Scene(AUTHENTICATED + COMEBACK_0),
           "no comeback": Scene(AUTHENTICATED + NO_COMEBACK),
           "thrown out": Scene(JOINED + THROWN_OUT, (1, 0)),
           "asked first": Scene(JOIN + ASKED_FIRST, (2, 1)),
-          "unanswered": Scene(JOINED + UNANSWERED, (2, 1))}
+          "unanswered": Scene(JOINED + UNANSWERED, (2, 1)),
+          "both ask": Scene(BOTH_ASK), "one asks": Scene(ONE_ASKS)}

@@ -1,15 +1,16 @@
-"""The picture of a peer's states, at an access point or a station, drawn from the list of moves."""
+"""The picture of a peer's states in each role, drawn from the list of moves."""
 
 import collections
 
 from .conditions import TAGS, condition
 from .labels import Label, block, block_size, mark
-from .move_list import Fault
+from .move_list import ROLES, Fault
 from .notes import NOTES, belied
 from .queries import QUERY_HEIGHT, query_panel
 from .svg import AMBER, MUTED, PAPER, Canvas
 
-WIDTH, HEIGHT = 1280, 954
+WIDTH, HEIGHT, AD_HOC_HEIGHT = 1280, 954, 512
+ACCESS_POINT, STATION, AD_HOC = ROLES.values()
 BOX_X, BOX_WIDTH, BOX_HEIGHT = 250, 376, 68
 BOX_END = BOX_X + BOX_WIDTH
 TOPS = {0: 90, 1: 218, 2: 340, 3: 528, 4: 756}
@@ -19,12 +20,16 @@ NAMES = {0: ("No record", "counts as State 1"), 1: ("State 1", "not authenticate
          2: ("State 2", "authenticated, not associated"),
          3: ("State 3", "associated, the RSNA not yet set up"), 4: ("State 4", "associated")}
 FILLS = {0: PAPER, 1: "#eff2f5", 2: "#ddf0ff", 3: "#fff5c2", 4: "#d8f5df"}
-TITLES = {1: "A peer's state at an access point", 2: "An access point's state at a station"}
+AD_HOC_NAMES = {**NAMES, 2: ("State 2", "authenticated")}
+TITLES = {ACCESS_POINT: "A peer's state at an access point",
+          STATION: "An access point's state at a station",
+          AD_HOC: "A peer's state in an ad hoc network"}
 NOTES_X, NOTES_Y = 900, 96
 
 # An arrow stands for the moves from any of some states to one; they must have the same causes.
-ARROWS = (((0,), 1), ((1,), 2), ((2,), 3), ((3,), 4), ((4,), 3), ((2,), 4), ((3, 4), 2),
-          ((2, 3, 4), 1), ((1,), 0))
+SHARED = (((0,), 1), ((1,), 2), ((1,), 0))
+ARROWS = SHARED + (((2,), 3), ((3,), 4), ((4,), 3), ((2,), 4), ((3, 4), 2), ((2, 3, 4), 1))
+AD_HOC_ARROWS = SHARED + (((2,), 1),)
 Arrow = collections.namedtuple("Arrow", "froms to labels")
 
 
@@ -80,16 +85,18 @@ def arrow(froms, to, moves):
 def arrows(role, moves):
     """Every arrow of a role. A move that no arrow shows is a fault."""
     mine = [move for move in moves if move.role == role]
-    shown = {(state, to) for froms, to in ARROWS for state in froms}
+    all_ = AD_HOC_ARROWS if role == AD_HOC else ARROWS
+    shown = {(state, to) for froms, to in all_ for state in froms}
     for move in mine:
         if (move.before, move.after) not in shown:
             raise Fault(f"states: no arrow goes from {move.before} to {move.after}")
-    return {(froms, to): arrow(froms, to, mine) for froms, to in ARROWS}
+    return {(froms, to): arrow(froms, to, mine) for froms, to in all_}
 
 
-def boxes(canvas, passes):
-    for state, top in TOPS.items():
-        name, about = NAMES[state]
+def boxes(canvas, passes, names):
+    """A box for each state of the role, with the classes that pass there."""
+    for state in passes:
+        top, (name, about) = TOPS[state], names[state]
         canvas.rectangle(BOX_X, top, BOX_WIDTH, BOX_HEIGHT, FILLS[state], "#8c959f", 8, state == 0)
         x = BOX_X + BOX_WIDTH / 2
         classes = ", ".join(str(klass) for klass in passes[state])
@@ -111,13 +118,15 @@ def straight(canvas, arrow_, x, side, at=0.5):
 
 def to_state_1(canvas, arrow_):
     """On the left: one line from each state, up to State 1."""
-    lowest = arrow_.froms[-1]
+    chain = (1,) + arrow_.froms
+    lowest, half = chain[-1], len(chain) // 2
     canvas.line([(BOX_X, middle(lowest)), (LEFT_BUS, middle(lowest)), (LEFT_BUS, middle(1)),
                  (BOX_X, middle(1))])
     for state in arrow_.froms[:-1]:
         canvas.line([(BOX_X, middle(state)), (LEFT_BUS, middle(state))], head=False)
     wide, high = block_size(arrow_.labels)
-    block(canvas, LEFT_BUS - 12 - wide, (middle(2) + middle(3)) / 2 - high / 2, arrow_.labels)
+    block(canvas, LEFT_BUS - 12 - wide, (middle(chain[half - 1]) + middle(chain[half])) / 2 - high / 2,
+          arrow_.labels)
 
 
 def to_state_2(canvas, arrow_):
@@ -152,7 +161,7 @@ def notes(canvas, role, listed):
         y += 8
 
 
-def legend(canvas, holds):
+def legend(canvas, role):
     y = canvas.height - 44
     canvas.line([(24, y - 32), (WIDTH - 24, y - 32)], "#d8dee4", head=False, thin=True)
     x = 34
@@ -162,10 +171,10 @@ def legend(canvas, holds):
         mark(canvas, kind, x + 9, y - 4)
         canvas.text(x + 25, y, words)
         x += wide
-    if holds:
+    if role == STATION:
         canvas.text(x, y, "hold", bold=True, fill=AMBER)
         canvas.text(x + 40, y, "sets the hold: the comeback given, else 1,954 TU")
-    else:
+    if role == ACCESS_POINT:
         canvas.text(x, y, "DS", fill=MUTED)
         canvas.text(x + 30, y, "the distribution system")
         canvas.text(x + 196, y, "edition 2", bold=True, fill=AMBER)
@@ -174,26 +183,34 @@ def legend(canvas, holds):
                 "program by tests/pictures/moves.py. What is not shown moves no state.", 11.5, fill=MUTED)
 
 
-def picture(role, listed):
-    """At an access point with what becomes of a query below."""
-    moves, with_query = listed.moves, role == 1
-    canvas = Canvas(WIDTH, HEIGHT + with_query * QUERY_HEIGHT, TITLES[role],
-                    "States, and every cause of a move between them.")
-    canvas.text(34, 42, TITLES[role], 20, bold=True)
-    canvas.text(34, 65, "Each arrow is a move of the state in the peer's record, and beside it "
-                "stands what causes it.", fill=MUTED)
-    notes(canvas, role, listed)
-    drawn = arrows(role, moves)
-    boxes(canvas, listed.passes)
-    straight(canvas, drawn[(0,), 1], DOWN, "right")
-    straight(canvas, drawn[(1,), 0], UP, "right")
-    straight(canvas, drawn[(1,), 2], DOWN, "right")
+def associated(canvas, drawn):
+    """The arrows to and from State 3 and 4, and those back to State 1."""
     straight(canvas, drawn[(2,), 3], DOWN, "right")
     straight(canvas, drawn[(3,), 4], DOWN, "right", 0.15)
     straight(canvas, drawn[(4,), 3], UP, "left", 0.8)
     to_state_1(canvas, drawn[(2, 3, 4), 1])
     past_state_3(canvas, drawn[(2,), 4], to_state_2(canvas, drawn[(3, 4), 2]))
+
+
+def picture(role, listed):
+    """At an access point with what becomes of a query below; in an ad hoc network without State 3 and 4."""
+    with_query, short = role == ACCESS_POINT, role == AD_HOC
+    canvas = Canvas(WIDTH, AD_HOC_HEIGHT if short else HEIGHT + with_query * QUERY_HEIGHT, TITLES[role],
+                    "States, and every cause of a move between them.")
+    canvas.text(34, 42, TITLES[role], 20, bold=True)
+    canvas.text(34, 65, "Each arrow is a move of the state in the peer's record, and beside it "
+                "stands what causes it.", fill=MUTED)
+    notes(canvas, role, listed)
+    drawn = arrows(role, listed.moves)
+    boxes(canvas, listed.passes[role], AD_HOC_NAMES if short else NAMES)
+    straight(canvas, drawn[(0,), 1], DOWN, "right")
+    straight(canvas, drawn[(1,), 0], UP, "right")
+    straight(canvas, drawn[(1,), 2], DOWN, "right")
+    if short:
+        to_state_1(canvas, drawn[(2,), 1])
+    else:
+        associated(canvas, drawn)
     if with_query:
         query_panel(canvas, HEIGHT - 88, listed.queries)
-    legend(canvas, any(move.role == role and move.hold != ("kept",) for move in moves))
+    legend(canvas, role)
     return canvas

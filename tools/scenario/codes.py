@@ -1,6 +1,7 @@
 """The numbers of the rules and of IEEE 802.11 in words."""
 
-ROLES = {1: "AP", 2: "station"}
+ROLES = {1: "AP", 2: "station", 3: "ad hoc"}
+A_ROLE = {1: "an AP", 2: "a station", 3: "an ad hoc network"}
 STATES = {1: "not authenticated", 2: "authenticated", 3: "associated, RSNA not yet established",
           4: "associated"}
 KINDS = {1: "authentication", 2: "association", 3: "reassociation"}
@@ -76,7 +77,7 @@ def refusal(number, kind, primitive, role):
     if number == 3:
         return REFUSAL_3[kind]
     if number == 5:
-        return f"this primitive is not for {'an AP' if role == 1 else 'a station'}"
+        return f"this primitive is not for {A_ROLE[role]}"
     if number == 7:
         return REFUSAL_7.get(primitive, "no matching exchange or state")
     return REFUSALS.get(number, "a refusal that the rules do not list")

@@ -60,7 +60,7 @@ HEADS = {"public-action": bytes((bench.PUBLIC,)), **QUERIES}
 ALL_FIELDS = [
     Field("from", "address", 0, "the sender, Address 2"),
     Field("to", "address", 0, "the receiver, Address 1: our own if not given"),
-    Field("third", "address", 0, "Address 3: the AP's if not given"),
+    Field("third", "address", 0, "Address 3: the AP's, or the ad hoc network's, if not given"),
     Field("algorithm", "number", 0xFFFF, "authentication algorithm: 0, open, if not given"),
     Field("transaction", "number", 0xFFFF, "1 of a request and 2 of a response if not given"),
     Field("capability", "number", 0xFFFF, "0x0001, or 0x0011 where RSNA is required, if not given"),

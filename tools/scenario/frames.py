@@ -17,7 +17,8 @@ QOS = 8
 def default(row, name, settings, given):
     """The value of a field that the line leaves out."""
     own, at_ap = settings.own, settings.role == bench.ACCESS_POINT
-    usual = {"to": own, "third": own if at_ap else given.get("from", own),
+    third = {bench.ACCESS_POINT: own, bench.AD_HOC: settings.network or bench.ZERO}
+    usual = {"to": own, "third": third.get(settings.role, given.get("from", own)),
              "capability": 0x0011 if settings.rsna == 1 else 0x0001, "listen-interval": 10,
              "transaction": 1 if row.word == "auth-request" else 2,
              "aid": 0 if given.get("status") else 1,
@@ -25,7 +26,7 @@ def default(row, name, settings, given):
              "elements": b"", "body": b"", "comeback": None, "aid-field": None, "category": None,
              "length": None}
     if row.type == bench.DATA:
-        usual["to-ds"], usual["from-ds"] = int(at_ap), int(not at_ap)
+        usual["to-ds"], usual["from-ds"] = int(at_ap), int(settings.role == bench.STATION)
         usual["body"] = b"\0\0" if row.subtype & QOS else b""
     return usual.get(name, 0)
 

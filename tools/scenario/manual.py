@@ -21,12 +21,15 @@ A scenario, one thing a line, '#' to the end of the line a comment:
   prim respond-authenticate scanner status=0
   clock 1
 
-Settings come first: 'ap' or 'station' (or 'settings role=N') with own=ADDRESS, rsna=0|1 (0 if not
+Settings come first: 'ap', 'station' or 'ad-hoc' (or 'settings role=N') with own=ADDRESS, rsna=0|1 (0 if not
 given) and timeouts=AUTHENTICATION,ASSOCIATION in TU (100,100). A TU is 1,024 microseconds. Also
 edition=1|2 (1) and protection=0|1 (0): the rule for an association that an AP rejects. Edition 1 puts the
 peer to State 2; edition 2 puts State 4 to 3 and keeps others, with protection it keeps State 4 too.
 query-retry=TU (201) and query-maximum=TU (1000) are the times of an SA Query: with edition 2 and protection
 an AP answers a request in State 4 with status 30 and asks the peer first.
+'ad-hoc' is a network without an AP. It needs network=ADDRESS, the network's own, which is Address 3 of every
+frame there. Only class 1 passes, and data with to-ds=0 and from-ds=0 (as it is if not given), block acks and
+all actions are of it.
 Another settings line begins anew: an empty table, events counted from 1, the names kept.
 
   name NAME = ADDRESS              a name for an address; 'own' and 'broadcast' have theirs
@@ -54,11 +57,10 @@ def _frames():
 
 
 def _primitives():
-    rows = ["Primitives, their code (its value if not given) and the role they are for:", ""]
+    rows = ["Primitives, their code (its value if not given) and the roles they are for:", ""]
     for row in primitives.TABLE:
         code = f"{row.code}={row.default}"
-        role = {"both": "AP and station"}.get(row.role, row.role)
-        rows.append(f"  {row.number:2}  {row.word:21}{row.name:24}{code:16}{role}")
+        rows.append(f"  {row.number:2}  {row.word:21}{row.name:24}{code:16}{row.roles}")
     return rows + ["", "code=N is taken for each of them."]
 
 

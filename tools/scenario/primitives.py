@@ -4,18 +4,18 @@ import collections
 
 from .values import number, one_of
 
-Primitive = collections.namedtuple("Primitive", "number word name code default role")
+Primitive = collections.namedtuple("Primitive", "number word name code default roles")
 
 TABLE = [
-    Primitive(1, "authenticate", "AUTHENTICATE.request", "code", 0, "station"),
-    Primitive(2, "respond-authenticate", "AUTHENTICATE.response", "status", 0, "AP"),
-    Primitive(3, "deauthenticate", "DEAUTHENTICATE.request", "reason", 3, "both"),
+    Primitive(1, "authenticate", "AUTHENTICATE.request", "code", 0, "station, ad hoc"),
+    Primitive(2, "respond-authenticate", "AUTHENTICATE.response", "status", 0, "AP, ad hoc"),
+    Primitive(3, "deauthenticate", "DEAUTHENTICATE.request", "reason", 3, "all"),
     Primitive(4, "associate", "ASSOCIATE.request", "code", 0, "station"),
     Primitive(5, "reassociate", "REASSOCIATE.request", "code", 0, "station"),
-    Primitive(6, "disassociate", "DISASSOCIATE.request", "reason", 8, "both"),
+    Primitive(6, "disassociate", "DISASSOCIATE.request", "reason", 8, "AP, station"),
     Primitive(7, "respond-associate", "ASSOCIATE.response", "status", 0, "AP"),
     Primitive(8, "respond-reassociate", "REASSOCIATE.response", "status", 0, "AP"),
-    Primitive(9, "set-protection", "SETPROTECTION Rx_Tx", "code", 0, "both"),
+    Primitive(9, "set-protection", "SETPROTECTION Rx_Tx", "code", 0, "AP, station"),
     Primitive(10, "report", "transmit report", "acknowledged", 1, "AP"),
     Primitive(11, "query", "SA-QUERY.request", "code", 0, "AP"),
 ]

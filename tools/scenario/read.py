@@ -12,16 +12,16 @@ from .values import Fault, Names, number, octets, one_of
 Event = collections.namedtuple("Event", "record kind peer primitive frame raw")
 # A line, its events, and the settings that it gives, None where it gives none.
 Line = collections.namedtuple("Line", "text events settings")
-# The rule, edition, protection and a query's two times, has None where they are not given; the record
-# is the bench's.
-Settings = collections.namedtuple("Settings", "role own rsna timeouts rule record")
+# The rule, edition, protection and a query's two times, has None where they are not given, and so is a
+# network's address; the record is the bench's.
+Settings = collections.namedtuple("Settings", "role own rsna timeouts rule network record")
 
-ROLES = {"ap": bench.ACCESS_POINT, "station": bench.STATION}
+ROLES = {"ap": bench.ACCESS_POINT, "station": bench.STATION, "ad-hoc": bench.AD_HOC}
 # The words of the rule, with the highest number that each field can hold.
 RULE = {"edition": 0xFF, "protection": 0xFF, "query-retry": 0xFFFF, "query-maximum": 0xFFFF}
-SETTINGS = ["own", "rsna", "timeouts", *RULE]
-FIRST = "ap, station or settings"
-VERBS = ("name", "ap", "station", "settings", "frame", "prim", "clock")
+SETTINGS = ["own", "rsna", "timeouts", *RULE, "network"]
+FIRST = "ap, station, ad-hoc or settings"
+VERBS = ("name", *ROLES, "settings", "frame", "prim", "clock")
 
 
 class ScenarioFault(Exception):
@@ -54,7 +54,7 @@ class Reader:
         """A line with its events, none, one, or one for each address of a range, or its settings."""
         words = text.split("#", 1)[0].split()
         verb = one_of(words[0], VERBS, "word to begin a line") if words else "name"
-        if verb in ("ap", "station", "settings"):
+        if verb in ROLES or verb == "settings":
             self.begin(self._settings(verb, words[1:]))
             return Line(text.rstrip(), [], self.settings)
         if verb != "name" and self.settings is None:
@@ -78,10 +78,12 @@ class Reader:
         known = SETTINGS + ["role"] if verb == "settings" else SETTINGS
         given = _pairs(words, known, verb)
         if verb == "settings" and "role" not in given:
-            raise Fault("settings needs role=N: 1 is an AP, 2 a station")
+            raise Fault("settings needs role=N: 1 is an AP, 2 a station, 3 ad hoc")
         role = ROLES.get(verb) or number(given["role"], "role", 255)
         if "own" not in given:
             raise Fault(f"{verb} needs own=ADDRESS, our own address")
+        if verb == "ad-hoc" and "network" not in given:
+            raise Fault("ad-hoc needs network=ADDRESS, the address of the network")
         own = self._single(given["own"], "own")
         rsna = number(given.get("rsna", "0"), "rsna", 255)
         times = given.get("timeouts", "100,100").split(",")
@@ -90,7 +92,10 @@ class Reader:
         times = [number(time, "timeouts", 0xFFFF) for time in times]
         rule = [number(given[name], name, highest) if name in given else None
                 for name, highest in RULE.items()]
-        return Settings(role, own, rsna, times, rule, bench.settings(role, own, rsna, *times, *rule))
+        self.names.set_own(own)  # so that network=own means this one
+        network = self._single(given["network"], "network") if "network" in given else None
+        return Settings(role, own, rsna, times, rule, network,
+                        bench.settings(role, own, rsna, *times, *rule, network))
 
     def _single(self, text, what):
         found = self.names.find(text, what)

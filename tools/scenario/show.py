@@ -50,9 +50,11 @@ def _line(played, reader, with_table):
     return told
 
 
-def _settings(settings, again):
+def _settings(settings, again, say):
     """What the settings mean; where they are not the first ones, that the table begins anew."""
     role = codes.ROLES.get(settings.role, f"role {settings.role}")
+    if settings.network is not None:
+        role += f", network {say(settings.network)}"
     rsna = {0: "not required", 1: "required"}.get(settings.rsna, str(settings.rsna))
     text = (f"{INDENT}{'with an empty table again: ' if again else ''}{role}, RSNA {rsna}, timeouts: "
             f"authentication {settings.timeouts[0]} TU, association {settings.timeouts[1]} TU")
@@ -73,8 +75,8 @@ def transcript(reader, lines, answers, with_table=False):
     for line in lines:
         told.append(line.text)
         if line.settings:
-            told.append(_settings(line.settings, again))
             reader.begin(line.settings)
+            told.append(_settings(line.settings, again, reader.names.say))
             before, again = {}, True
         played = []
         for event in line.events:

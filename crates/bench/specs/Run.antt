@@ -21,7 +21,7 @@ use Rattle.bench.specs.declared.run.Run.{Run}
 unfoldable pub startOf : Bool → Run
 startOf trace =
     record {
-      settings = record { own = 0; authentication = 0; association = 0; role = 0; rsna = 0; edition = 0; protection = 0; retry = 0; maximum = 0 };
+      settings = record { own = 0; network = 0; authentication = 0; association = 0; role = 0; rsna = 0; edition = 0; protection = 0; retry = 0; maximum = 0 };
       table = replicate 32 freeOf;
       number = 0;
       at = 0;

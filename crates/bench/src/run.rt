@@ -56,6 +56,7 @@ impl Run {
         Run {
             settings: Settings {
                 own: 0,
+                network: 0,
                 authentication: 0,
                 association: 0,
                 role: 0,

@@ -1,12 +1,12 @@
 -- 01, A received frame: "Classes, one fixed list by type and subtype".
 -- Assumes nothing.
 use Prim.Native.Nat.{ℕ, zero, suc}
-use mathlib.Core.Bool.{Bool, true, false, _&&_}
+use mathlib.Core.Bool.{Bool, true, false, _&&_, _||_}
 use mathlib.Core.List.{List}
 use lib.Dec.{ltb, leb, eqb}
 use lib.ListN.{length}
 use Rattle.octets.specs.Pick.{pick}
-use Rattle.octets.specs.Field.{field, versionOf, typeOf, subtypeOf, protectedOf}
+use Rattle.octets.specs.Field.{field, versionOf, typeOf, subtypeOf, protectedOf, dsBits}
 use Rattle.octets.specs.declared.class.FrameClass.{FrameClass}
 use Rattle.octets.specs.declared.class.FrameClass.the-variants.{None, One, Two, Three}
 
@@ -69,3 +69,23 @@ classOf xs =
     (pick (isPublicAction xs) One
     (named (classNumber (typeOf (field 1 0 xs)) (subtypeOf (field 1 0 xs)))))
     None
+
+-- 02, K10: "By document 001, data with To DS and From DS both 0, block ack, block ack request and all Action frames are class 1 there" (13 and 14).
+unfoldable pub isDirect : List ℕ → Bool
+isDirect xs =
+    pick (eqb (typeOf (field 1 0 xs)) 0)
+    (eqb (subtypeOf (field 1 0 xs)) 13 || eqb (subtypeOf (field 1 0 xs)) 14)
+    (pick (eqb (typeOf (field 1 0 xs)) 1)
+    (eqb (subtypeOf (field 1 0 xs)) 8 || eqb (subtypeOf (field 1 0 xs)) 9)
+    (eqb (dsBits (field 1 1 xs)) 0))
+
+-- The class in an ad hoc network, by that of the list. Each of those frames is class 3 in the list, or none: data of subtype 13 stays without.
+abbrev pub directClass : List ℕ → FrameClass → FrameClass
+directClass xs None = None
+directClass xs One = One
+directClass xs Two = Two
+directClass xs Three = pick (isDirect xs) One Three
+
+-- The class of a frame where there are access points, and where there are none.
+unfoldable pub classIn : Bool → List ℕ → FrameClass
+classIn infrastructure xs = pick infrastructure (classOf xs) (directClass xs (classOf xs))

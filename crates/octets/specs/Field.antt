@@ -38,3 +38,7 @@ subtypeOf first = first / 16
 -- 02, K1: "unprotected frame (bit 14 of Frame Control 0)": bit 6 of the second octet.
 abbrev pub protectedOf : ℕ → ℕ
 protectedOf second = second / 64 % 2
+
+-- To DS 8, From DS 9: the two lowest bits of the second octet. Both 0 is 0.
+abbrev pub dsBits : ℕ → ℕ
+dsBits second = second % 4

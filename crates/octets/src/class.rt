@@ -3,7 +3,7 @@ use crate::field::octet_at;
 ghost use mathlib.Core.Path.{_≡_};
 ghost use Prim.Native.Nat.{_/_, _%_, _<_};
 ghost use Rattle.octets.specs.Field.{field};
-ghost use Rattle.octets.specs.Class.{isPublicAction, classOf, classNumber, classless, named};
+ghost use Rattle.octets.specs.Class.{isPublicAction, classOf, classNumber, classless, named, isDirect, directClass, classIn};
 
 pub enum FrameClass {
     // No class: discarded.
@@ -128,6 +128,49 @@ pub fn class(frame: &[u8]) -> FrameClass
         return FrameClass::One;
     }
     entry((first / 4 % 4 * 16 + first / 16) as usize)
+}
+
+// Whether two stations may send each other a frame without an access point.
+fn direct(frame: &[u8]) -> bool
+    ensures { λ r. ⌜ r ≡ isDirect (now (frame .entry)) ⌝ }
+{
+    let first = octet_at(frame, 0);
+    let subtype = first / 16;
+    match first / 4 % 4 {
+        0 => { if subtype == 13 { true } else { subtype == 14 } }
+        1 => { if subtype == 8 { true } else { subtype == 9 } }
+        _ => octet_at(frame, 1) % 4 == 0,
+    }
+}
+
+// The class in an ad hoc network, by that of the list.
+fn direct_class(frame: &[u8], k: FrameClass) -> FrameClass
+    ensures { λ r. ⌜ r ≡ directClass (now (frame .entry)) k ⌝ }
+{
+    match k {
+        FrameClass::None => FrameClass::None,
+        FrameClass::One => FrameClass::One,
+        FrameClass::Two => FrameClass::Two,
+        FrameClass::Three => {
+            if direct(frame) {
+                FrameClass::One
+            } else {
+                FrameClass::Three
+            }
+        }
+    }
+}
+
+// The class of a frame where there are access points, or in an ad hoc network.
+pub fn class_in(infrastructure: bool, frame: &[u8]) -> FrameClass
+    ensures { λ r. ⌜ r ≡ classIn infrastructure (now (frame .entry)) ⌝ }
+{
+    let k = class(frame);
+    if infrastructure {
+        k
+    } else {
+        direct_class(frame, k)
+    }
 }
 
 // Whether a frame has no class.

@@ -23,9 +23,9 @@ use Rattle.octets.specs.declared.heard.Kind.the-variants.{Association, Reassoci
 use Rattle.octets.specs.declared.heard.Kind.{Kind}
 use Rattle.peer.specs.Ask.{answerOf, askOf, associateOf, awaitedOf, deauthenticateOf, declinedOf, disassociateOf, failedOf, reassociateOf, reportOf, respondOf, secureOf, startedOf}
 use Rattle.peer.specs.Challenge.{inquiredOf}
-use Rattle.peer.specs.Reply.{apAddress, authenticationTo, deauthenticationTo, disassociationTo, queryTo, requestTo, responseSubtype, responseTo, sendOf}
+use Rattle.peer.specs.Reply.{authenticationTo, deauthenticationTo, disassociationTo, networkAddress, queryTo, requestTo, responseSubtype, responseTo, sendOf}
 use Rattle.peer.specs.Said.{ReadsTo, Speaks, askedSays}
-use Rattle.peer.specs.Settings.{queryTimesFit, settingsFit, timeFits}
+use Rattle.peer.specs.Settings.{networkFits, queryTimesFit, roleAssociates, settingsFit, timeFits}
 use Rattle.peer.specs.Turn.{turnOf}
 use Rattle.peer.specs.declared.query.Query.the-variants as query
 use Rattle.peer.specs.declared.record.Exchange.the-variants.{None}
@@ -76,7 +76,7 @@ module _ (s : Settings) (fit : settingsFit s ≡ true) (p : Record) (valid : val
 
 -- An example: a station, own address 0a, RSNA required, is associated with the AP 0c and asks 0e, where it is authenticated: primitive 5.
 abbrev roaming : Settings
-roaming = record { role = 2; own = 0x0a; rsna = 1; authentication = 10; association = 10; edition = 1; protection = 0; retry = 201; maximum = 1000 }
+roaming = record { role = 2; own = 0x0a; network = 0; rsna = 1; authentication = 10; association = 10; edition = 1; protection = 0; retry = 201; maximum = 1000 }
 
 abbrev nearer : Record
 nearer = record { address = 0x0e; state = 2; exchange = None; left = 0; hold = 0; query = query.None; identifier = 0 }
@@ -85,5 +85,5 @@ roamed :
     ReadsTo roaming 0x0e (heard.Request Reassociation 0x0c)
     (0x20 ∷ 0 ∷ 0 ∷ 0 ∷ 0x0e ∷ 0 ∷ 0 ∷ 0 ∷ 0 ∷ 0 ∷ 0x0a ∷ 0 ∷ 0 ∷ 0 ∷ 0 ∷ 0 ∷ 0x0e ∷ 0 ∷ 0 ∷ 0 ∷ 0 ∷ 0 ∷ 0 ∷ 0 ∷
     0x11 ∷ 0 ∷ 10 ∷ 0 ∷ 0x0c ∷ 0 ∷ 0 ∷ 0 ∷ 0 ∷ 0 ∷ [])
-unfolding askOf reassociateOf startedOf turnOf requestTo sendOf apAddress capabilityOf bytesOf headOf bodyOf octets settingsFit queryTimesFit timeFits validOf
+unfolding askOf reassociateOf startedOf turnOf requestTo sendOf networkAddress capabilityOf bytesOf headOf bodyOf octets settingsFit queryTimesFit timeFits networkFits roleAssociates validOf
 roamed = ask-said roaming refl nearer refl (omega arith) 0 (omega arith) (record { associated = 0x0c; busy = false }) (omega arith) 5 0 (omega arith) .1

@@ -20,11 +20,11 @@ use Rattle.octets.specs.declared.heard.Kind.the-variants.{Association, Reassoci
 use Rattle.octets.specs.declared.heard.Kind.{Kind}
 use Rattle.peer.specs.Ask.{askOf, declinedMove, declinedOf, respondOf}
 use Rattle.peer.specs.Association.{rejectedOf, responseHeard}
-use Rattle.peer.specs.Fit.{askedFits, holdFits, queryAllowed, recordFits, stands}
+use Rattle.peer.specs.Fit.{askedFits, highestState, holdFits, queryAllowed, recordFits, stands}
 use Rattle.peer.specs.Moves.{dsLeft, dsNone, dsOf, movedOf}
 use Rattle.peer.specs.Record.{changedOf, isJoined, isSent}
 use Rattle.peer.specs.Refuse.{codeAllowed, mismatchOf, one, roleAllowed}
-use Rattle.peer.specs.Settings.{ap, queryTimesFit, settingsFit, timeFits}
+use Rattle.peer.specs.Settings.{ap, networkFits, queryTimesFit, roleAnswers, roleAsks, roleAssociates, settingsFit, timeFits}
 use Rattle.peer.specs.Turn.{endedOf, none, turnOf}
 use Rattle.peer.specs.declared.moves.Move.the-variants as move
 use Rattle.peer.specs.declared.moves.Move.{Move}
@@ -34,6 +34,7 @@ use Rattle.peer.specs.declared.record.Record.{Record}
 use Rattle.peer.specs.declared.refuse.Others.{Others}
 use Rattle.peer.specs.declared.settings.Settings.{Settings}
 use Rattle.peer.proofs.Fits.{both}
+use Rattle.peer.proofs.Roles.{ds-beside}
 
 -- "when an AP answers anything but success": primitives 7 and 8 with a status other than 0
 abbrev pub rejects : ℕ → ℕ → Bool
@@ -43,7 +44,7 @@ rejects q code = one q 7 8 && not (eqb code 0)
 pub one-of-three : (s : Settings) → settingsFit s ≡ true → (1 ≤ s .edition) × (s .edition ≤ 2) × (s .protection ≤ 1)
 unfolding settingsFit
 one-of-three s h =
-    let a = both (leb (s .role) 2) _ (both (not (eqb (s .role) 0)) _ h .1) in
+    let a = both (leb (s .role) 3) _ (both (not (eqb (s .role) 0)) _ h .1) in
     let b = both (timeFits (s .authentication)) _ (both (leb (s .rsna) 1) _ (a .1) .1) in
     let c = both (leb (s .protection) 1) _ (both (timeFits (s .association)) _ (b .1) .1) in
     let d = both (not (eqb (s .edition) 0)) _ (c .1) in
@@ -98,14 +99,9 @@ module _ (s : Settings) (aid : ℕ) (p : Record) (o : Others) (q code : ℕ) (r 
 
   -- And the distribution system hears nothing.
   pub second-silent : s .edition ≡ 2 → askOf s aid p o q code .ds ≡ dsNone
-  unfolding declinedOf turnOf endedOf changedOf dsOf
+  unfolding declinedOf turnOf endedOf changedOf
   second-silent e =
-      rw (declines s aid p o q code r, second-side (λ n. ltb n 3) refl e)
-      (pick-both (λ (n : ℕ). n ≡ dsNone) (eqb (s .role) ap) (beside (ltb (p .state) 3)) refl)
-    where
-      beside : (b : Bool) → pick b (pick b dsNone 1) (pick b dsLeft dsNone) ≡ dsNone
-      beside true = refl
-      beside false = refl
+      rw (declines s aid p o q code r) (ds-beside (s .role) (p .state) _ (second-side (λ n. ltb n 3) refl e))
 
   -- In edition 1 it is told "left" of who was associated.
   pub first-left : s .edition ≡ 1 → s .role ≡ ap → 3 ≤ p .state → askOf s aid p o q code .ds ≡ dsLeft
@@ -125,7 +121,7 @@ heard-rejection s p k status aid c sent other = rw (sent, ne-eqb status 0 other)
 
 abbrev site : ℕ → ℕ → Settings
 site edition protection =
-    record { own = 2; authentication = 100; association = 100; role = 1; rsna = 0; edition = edition; protection = protection; retry = 201; maximum = 1000 }
+    record { own = 2; network = 0; authentication = 100; association = 100; role = 1; rsna = 0; edition = edition; protection = protection; retry = 201; maximum = 1000 }
 
 abbrev asking : ℕ → Record
 asking state = record { address = 4; state = state; exchange = Asked Reassociation; left = 0; hold = 0; query = query.None; identifier = 0 }
@@ -139,7 +135,7 @@ taken s p = settingsFit s && (recordFits s p && (codeAllowed 8 1 && (roleAllowed
 
 all-taken :
     (taken (site 1 1) (asking 4) && (taken (site 2 0) (asking 4) && (taken (site 2 0) (asking 3) && taken (site 2 1) (asking 4)))) ≡ true
-unfolding taken settingsFit queryTimesFit timeFits validOf recordFits queryAllowed holdFits askedFits stands codeAllowed roleAllowed mismatchOf
+unfolding taken settingsFit queryTimesFit timeFits networkFits validOf recordFits highestState queryAllowed holdFits askedFits stands roleAnswers roleAsks roleAssociates codeAllowed roleAllowed mismatchOf
 all-taken = refl
 
 four-to-two : askOf (site 1 1) 1 (asking 4) nobody 8 1 .peer .state ≡ 2
@@ -162,7 +158,7 @@ four-silent = second-silent (site 2 0) 1 (asking 4) nobody 8 1 refl refl
 
 -- .. and a station in State 4 that has asked for association again hears status 1.
 heard-two :
-    responseHeard (record { own = 2; authentication = 100; association = 100; role = 2; rsna = 0; edition = 2; protection = 1; retry = 201; maximum = 1000 })
+    responseHeard (record { own = 2; network = 0; authentication = 100; association = 100; role = 2; rsna = 0; edition = 2; protection = 1; retry = 201; maximum = 1000 })
     (record { address = 4; state = 4; exchange = Sent Association; left = 9; hold = 0; query = query.None; identifier = 0 }) Association 1 0 Absent .peer .state
     ≡ 2
 heard-two = heard-rejection _ _ Association 1 0 Absent refl (λ (z : 1 ≡ 0). omega arith)

@@ -2,7 +2,7 @@
 --     rejects-alike                         a rejection ends the exchange, and the frame and all else but the state are the same
 --     hears-alike, ticks-alike, asks-alike  no clock step, no other primitive, and no frame but a (re)association request in State 4 (02, K5) looks
 --                                           at the edition or the flag
---     station-hears-alike                   at a station no frame at all
+--     station-hears-alike                   at a station and in an ad hoc network no frame at all
 -- Assumes nothing.
 use Prim.Native.Nat.{ℕ}
 use mathlib.Core.Path.{_≡_, refl}
@@ -16,7 +16,7 @@ use Rattle.octets.specs.declared.heard.Heard.the-variants as heard
 use Rattle.octets.specs.declared.heard.Heard.{Heard}
 use Rattle.peer.specs.Ask.{answerOf, askOf, associateOf, awaitedOf, deauthenticateOf, declinedOf, disassociateOf, failedOf, reassociateOf, reportOf, respondOf, secureOf, startedOf}
 use Rattle.peer.specs.Association.{acceptedOf, rejectedOf, requestHeard, responseHeard}
-use Rattle.peer.specs.Authentication.{authenticationAtAp, authenticationAtStation, authenticationHeard, fullOf, requestedOf}
+use Rattle.peer.specs.Authentication.{authenticationAnswered, authenticationAsked, authenticationHeard, fullOf, requestedOf}
 use Rattle.peer.specs.Challenge.{inquiredOf, isChallenged, queryRequestHeard, queryResponseHeard}
 use Rattle.peer.specs.Farewell.{deauthenticationHeard, disassociationHeard}
 use Rattle.peer.specs.Filter.{barredBy, barredOf, filteredOf, requestBarred}
@@ -24,7 +24,7 @@ use Rattle.peer.specs.Hear.{actOf, groupHeard, hearOf}
 use Rattle.peer.specs.Query.{queryReport, queryTimed, reaches, runningReport, runningTimed}
 use Rattle.peer.specs.Record.{changedOf}
 use Rattle.peer.specs.Refuse.{one}
-use Rattle.peer.specs.Reply.{apAddress, authenticationTo, deauthenticationTo, disassociationTo, queryTo, requestTo, responseTo, sendOf}
+use Rattle.peer.specs.Reply.{authenticationTo, deauthenticationTo, disassociationTo, networkAddress, queryTo, requestTo, responseTo, sendOf}
 use Rattle.peer.specs.Settings.{ap}
 use Rattle.peer.specs.Tick.{queriedTimed, reportedOf, tickOf, timedOf}
 use Rattle.peer.specs.Turn.{begunOf, endedOf, none, nothingTold, repliedOf, soleOf, stillOf, turnOf}
@@ -41,6 +41,7 @@ unfoldable pub inEdition : Settings → ℕ → ℕ → Settings
 inEdition s edition protection =
     record {
       own = s .own;
+      network = s .network;
       authentication = s .authentication;
       association = s .association;
       role = s .role;
@@ -77,14 +78,14 @@ module _ (s : Settings) (edition protection : ℕ) (p : Record) where
   other = inEdition s edition protection
 
   filtered-alike : (k : FrameClass) → filteredOf other p k ≡ filteredOf s p k
-  unfolding inEdition deauthenticationTo disassociationTo sendOf apAddress
+  unfolding inEdition deauthenticationTo disassociationTo sendOf networkAddress
   filtered-alike class.None = refl
   filtered-alike class.One = refl
   filtered-alike class.Two = refl
   filtered-alike class.Three = refl
 
   barred-alike : (k : FrameClass) (h : Heard) → barredBy other p k h ≡ barredBy s p k h
-  unfolding inEdition requestBarred responseTo sendOf apAddress
+  unfolding inEdition requestBarred responseTo sendOf networkAddress
   barred-alike k heard.Other = filtered-alike k
   barred-alike k (heard.Authentication algorithm transaction status) = filtered-alike k
   barred-alike k (heard.Deauthentication reason) = filtered-alike k
@@ -95,7 +96,7 @@ module _ (s : Settings) (edition protection : ℕ) (p : Record) where
   barred-alike k (heard.QueryResponse identifier) = filtered-alike k
 
   act-alike : (h : Heard) → mayBeForged p h ≡ false → actOf other p h ≡ actOf s p h
-  unfolding inEdition queryRequestHeard queryResponseHeard queryTo stillOf repliedOf turnOf soleOf begunOf endedOf authenticationHeard authenticationAtAp authenticationAtStation requestedOf deauthenticationHeard disassociationHeard requestHeard responseHeard acceptedOf rejectedOf authenticationTo sendOf apAddress
+  unfolding inEdition queryRequestHeard queryResponseHeard queryTo stillOf repliedOf turnOf soleOf begunOf endedOf authenticationHeard authenticationAsked authenticationAnswered requestedOf deauthenticationHeard disassociationHeard requestHeard responseHeard acceptedOf rejectedOf authenticationTo sendOf networkAddress
   act-alike heard.Other e = refl
   act-alike (heard.Authentication algorithm transaction status) e = refl
   act-alike (heard.Deauthentication reason) e = refl
@@ -110,7 +111,7 @@ module _ (s : Settings) (edition protection : ℕ) (p : Record) where
   unfolding inEdition hearOf groupHeard barredOf repliedOf stillOf turnOf
   hears-alike k group h e = rw (barred-alike k h, act-alike h e)
 
-  -- At a station, which answers no request, not even that one.
+  -- Away from an access point, where no such request is answered, not even that one.
   station-act : eqb (s .role) ap ≡ false → (h : Heard) → actOf other p h ≡ actOf s p h
   unfolding inEdition requestHeard stillOf repliedOf turnOf
   station-act r heard.Other = act-alike heard.Other refl
@@ -127,7 +128,7 @@ module _ (s : Settings) (edition protection : ℕ) (p : Record) where
   station-hears-alike r k group h = rw (barred-alike k h, station-act r h)
 
   pub full-alike : fullOf other p ≡ fullOf s p
-  unfolding inEdition fullOf repliedOf turnOf authenticationTo sendOf apAddress
+  unfolding inEdition fullOf repliedOf turnOf authenticationTo sendOf networkAddress
   full-alike = refl
 
   timed-alike : (d : ℕ) → timedOf other p d ≡ timedOf s p d
@@ -153,7 +154,7 @@ module _ (s : Settings) (edition protection : ℕ) (p : Record) where
 
   -- No primitive but a rejection.
   pub asks-alike : (aid : ℕ) (o : Others) (q code : ℕ) → rejects q code ≡ false → askOf other aid p o q code ≡ askOf s aid p o q code
-  unfolding inEdition askOf startedOf answerOf deauthenticateOf associateOf reassociateOf failedOf disassociateOf respondOf awaitedOf secureOf reportOf inquiredOf queryTo turnOf endedOf requestTo authenticationTo deauthenticationTo disassociationTo responseTo sendOf apAddress
+  unfolding inEdition askOf startedOf answerOf deauthenticateOf associateOf reassociateOf failedOf disassociateOf respondOf awaitedOf secureOf reportOf inquiredOf queryTo turnOf endedOf requestTo authenticationTo deauthenticationTo disassociationTo responseTo sendOf networkAddress
   asks-alike aid o q code n =
       by-bool (eqb q 7)
       (λ e. let z = eqb-true q 7 e in rw (z, not-false (eqb code 0) (rw z at n)))
@@ -164,5 +165,5 @@ module _ (s : Settings) (edition protection : ℕ) (p : Record) where
       (aid : ℕ) (o : Others) (q code : ℕ) → rejects q code ≡ true
       → askOf other aid p o q code
       ≡ turnOf s p (changedOf p (askOf other aid p o q code .peer .state) None 0 (p .hold)) none nothingTold (responseTo s (p .address) (kindAsked q) code 0)
-  unfolding inEdition declinedOf turnOf endedOf changedOf responseTo sendOf apAddress
+  unfolding inEdition declinedOf turnOf endedOf changedOf responseTo sendOf networkAddress
   rejects-alike aid o q code r = rw (declines other aid p o q code r)

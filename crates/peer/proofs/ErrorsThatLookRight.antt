@@ -1,6 +1,6 @@
 -- 01, "Errors that look right": none of the three is in the rules, at one peer.
 --     heard-no-higher, raised-by           at an access point no frame raises a state, and no primitive before the acknowledgement
---     repeated-at-ap, repeated-at-station  an authentication that is repeated, from its request to its answer, leaves State 2 to 4
+--     repeated-answered, repeated-asked    an authentication that is repeated, from its request to its answer, leaves State 2 to 4
 --     hear-kept, ask-kept, not-freed       no frame and no primitive takes a record its address; a deauthentication frees no place
 -- Assumes nothing.
 use Prim.Native.Nat.{ℕ, _≤_, _<_}
@@ -8,8 +8,8 @@ use mathlib.Core.Path.{_≡_, refl}
 use mathlib.Core.Bool.{Bool, true, false, not, _&&_, _||_}
 use native.Mathlib.Omega.{arith}
 use lib.Dec.{eqb, leb, ltb}
-use borrow.Author.Tests.{eq-eqb, eqb-true, leb-true, ltb-false, ne-eqb, not-false}
-use Rattle.octets.proofs.Branch.{by-bool, pick-both, pick-by}
+use borrow.Author.Tests.{eqb-true, leb-true, ltb-false, ne-eqb, not-false}
+use Rattle.octets.proofs.Branch.{and-right, by-bool, pick-both, pick-by}
 use Rattle.octets.specs.Address.{validOf}
 use Rattle.octets.specs.declared.class.FrameClass.{FrameClass}
 use Rattle.octets.specs.declared.class.FrameClass.the-variants.{One}
@@ -18,9 +18,9 @@ use Rattle.octets.specs.declared.heard.Heard.{Heard}
 use Rattle.octets.specs.declared.heard.Kind.the-variants as kind
 use Rattle.octets.specs.declared.heard.Kind.{Kind}
 use Rattle.peer.specs.Ask.{answerOf, askOf, associateOf, awaitedOf, deauthenticateOf, declinedOf, disassociateOf, failedOf, reassociateOf, reportOf, reportedMove, respondOf, secureOf, startedOf}
-use Rattle.peer.specs.Association.{acceptedOf, rejectedOf, requestHeard, responseHeard}
-use Rattle.peer.specs.Authentication.{answeredMove, authenticationAtAp, authenticationAtStation, authenticationHeard, requestedOf}
-use Rattle.peer.specs.Challenge.{challengedOf, inquiredOf, isChallenged, passedOf, queryRequestHeard, queryResponseHeard, queryingOf}
+use Rattle.peer.specs.Association.{acceptedOf, rejectedOf, responseHeard}
+use Rattle.peer.specs.Authentication.{answeredMove, requestedOf}
+use Rattle.peer.specs.Challenge.{challengedOf, inquiredOf, passedOf, queryRequestHeard, queryResponseHeard, queryingOf}
 use Rattle.peer.specs.Codes.{lastAid}
 use Rattle.peer.specs.Farewell.{deauthenticationHeard, disassociationHeard}
 use Rattle.peer.specs.Filter.{passesOf}
@@ -29,7 +29,7 @@ use Rattle.peer.specs.Moves.{movedOf}
 use Rattle.peer.specs.Query.{isRunning}
 use Rattle.peer.specs.Record.{askedOf, awaitingOf, changedOf, isFree, isSent, queriedOf}
 use Rattle.peer.specs.Refuse.{codeAllowed, mismatchOf}
-use Rattle.peer.specs.Settings.{ap, station}
+use Rattle.peer.specs.Settings.{ap, roleAnswers, roleAsks, roleAssociates, station}
 use Rattle.peer.specs.Turn.{begunOf, endedOf, repliedOf, soleOf, stillOf, turnOf}
 use Rattle.peer.specs.declared.query.Query.the-variants as query
 use Rattle.peer.specs.declared.record.Exchange.the-variants.{Awaiting, None}
@@ -37,9 +37,10 @@ use Rattle.peer.specs.declared.record.Record.{Record}
 use Rattle.peer.specs.declared.refuse.Others.{Others}
 use Rattle.peer.specs.declared.settings.Settings.{Settings}
 use Rattle.peer.specs.declared.turn.Turn.{Turn}
-use Rattle.peer.specs.Fit.{askedFits, awaitingFits, holdFits, queryAllowed, recordFits, stands}
-use Rattle.peer.proofs.Fits.{Fits, asked-stands, clash, fits-of, sent-station, wrong}
+use Rattle.peer.specs.Fit.{askedFits, awaitingFits, highestState, holdFits, queryAllowed, recordFits, stands}
+use Rattle.peer.proofs.Fits.{Fits, asked-stands, fits-of, sent-asks, wrong}
 use Rattle.peer.proofs.Keeps.{declined-no-higher}
+use Rattle.peer.proofs.Roles.{authentication-by, request-by}
 
 -- ---- "Raising the AP's state at the response, before its acknowledgement."
 
@@ -47,25 +48,26 @@ abbrev NoHigher : Record → Turn → Type 0
 NoHigher p t = t .peer .state ≤ p .state
 
 module _ (s : Settings) (role : s .role ≡ ap) (p : Record) (f : Fits s p) where
+  -- no exchange was sent
+  none-sent : {P : Type 0} (k : Kind) → isSent k (p .exchange) ≡ true → P
+  unfolding roleAsks
+  none-sent k e = let a = sent-asks (p .exchange) k (s .role) (p .state) (p .left) (f .suits) e in wrong (rw role at a)
+
   act-no-higher : (h : Heard) → NoHigher p (actOf s p h)
-  unfolding stillOf repliedOf turnOf begunOf endedOf changedOf authenticationHeard authenticationAtAp requestedOf deauthenticationHeard disassociationHeard requestHeard responseHeard queryRequestHeard queryResponseHeard challengedOf queryingOf passedOf queriedOf
+  unfolding stillOf repliedOf turnOf begunOf endedOf changedOf requestedOf deauthenticationHeard disassociationHeard responseHeard queryRequestHeard queryResponseHeard challengedOf queryingOf passedOf queriedOf
   act-no-higher heard.Other = omega arith
   act-no-higher (heard.Authentication algorithm transaction status) =
-      pick-by (NoHigher p) (eqb (s .role) ap)
-      (λ a. pick-both (NoHigher p) (eqb transaction 1) (pick-both (NoHigher p) (eqb algorithm 0) (omega arith) (omega arith)) (omega arith))
-      (λ a. clash (eq-eqb (s .role) ap role) a)
+      authentication-by s p (NoHigher p) algorithm transaction status (λ a z. omega arith) (λ z. omega arith) (none-sent kind.Authentication) (omega arith)
   act-no-higher (heard.Deauthentication reason) =
       pick-by (NoHigher p) (ltb (p .state) 2) (λ l. omega arith) (λ l. let two : 2 ≤ p .state = ltb-false (p .state) 2 l in omega arith)
   act-no-higher (heard.Disassociation reason) =
       pick-by (NoHigher p) (ltb (p .state) 3) (λ l. omega arith) (λ l. let three : 3 ≤ p .state = ltb-false (p .state) 3 l in omega arith)
   act-no-higher (heard.Request k current) =
-      pick-both (NoHigher p) (eqb (s .role) ap) (pick-both (NoHigher p) (isChallenged s p) (omega arith) (omega arith)) (omega arith)
+      request-by s p (NoHigher p) k current (λ a c. omega arith) (λ a. omega arith) (omega arith)
   act-no-higher (heard.QueryRequest i) = pick-both (NoHigher p) (eqb (p .state) 4) (omega arith) (omega arith)
   act-no-higher (heard.QueryResponse i) = pick-both (NoHigher p) (eqb (p .state) 4 && (isRunning (p .query) && eqb i (p .identifier))) (omega arith) (omega arith)
   act-no-higher (heard.Response k status aid c) =
-      pick-by (NoHigher p) (isSent k (p .exchange))
-      (λ e. clash (eq-eqb (s .role) ap role) (sent-station (p .exchange) k (s .role) (p .state) (p .left) (f .suits) e))
-      (λ e. omega arith)
+      pick-by (NoHigher p) (isSent k (p .exchange)) (none-sent k) (λ e. omega arith)
 
 -- At an access point no frame raises a state.
 pub heard-no-higher :
@@ -73,7 +75,7 @@ pub heard-no-higher :
     → hearOf s p k group h .peer .state ≤ p .state
 unfolding hearOf groupHeard stillOf repliedOf turnOf
 heard-no-higher s role p f k group h =
-    pick-both (NoHigher p) (not (passesOf k (p .state))) (omega arith)
+    pick-both (NoHigher p) (not (passesOf (s .role) k (p .state))) (omega arith)
     (pick-both (NoHigher p) group (pick-both (NoHigher p) (isExchange h) (omega arith) (pick-both (NoHigher p) (isQuery h) (omega arith) acts)) acts)
   where
     acts : NoHigher p (actOf s p h)
@@ -119,7 +121,7 @@ raised-by s p f aid o q code allowed mismatch =
 
     responded : (k : Kind) (n : ℕ) → leb 2 n ≡ true → eqb (askedOf (p .exchange)) n ≡ true → Only p q code (respondOf s aid p k code)
     responded k n two e =
-        let high : 2 ≤ p .state = leb-true 2 (p .state) (asked-stands (p .exchange) n (s .role) (p .state) (p .left) (f .suits) two e) in
+        let high : 2 ≤ p .state = leb-true 2 (p .state) (and-right (roleAssociates (s .role)) _ (asked-stands (p .exchange) n (s .role) (p .state) (p .left) (f .suits) two e)) in
         pick-both (Only p q code) (eqb code 0) kept (λ l. absurd (omega (arith, declined-no-higher s (p .state) high)))
 
     keyed : q ≡ 9 → Only p q code (secureOf s p)
@@ -139,35 +141,28 @@ answer-keeps rsna state status two = by-bool (eqb status 0)
 abbrev Same : Record → Turn → Type 0
 Same p t = t .peer .state ≡ p .state
 
-module _ (s : Settings) (p : Record) (k : FrameClass) (group : Bool) (algorithm transaction status : ℕ) where
-  -- An authentication request that an access point hears leaves the state.
-  requested-same : s .role ≡ ap → Same p (hearOf s p k group (heard.Authentication algorithm transaction status))
-  unfolding hearOf groupHeard stillOf repliedOf turnOf begunOf changedOf authenticationHeard authenticationAtAp requestedOf
-  requested-same role =
-      pick-both (Same p) (not (passesOf k (p .state))) refl
-      (pick-both (Same p) group refl
-      (pick-by (Same p) (eqb (s .role) ap)
-      (λ a. pick-both (Same p) (eqb transaction 1) (pick-both (Same p) (eqb algorithm 0) refl refl) refl)
-      (λ a. clash (eq-eqb (s .role) ap role) a)))
+-- An authentication frame, a request or an answer, leaves State 2 to 4, in every role and with whatever status.
+heard-same :
+    (s : Settings) (p : Record) (k : FrameClass) (group : Bool) (algorithm transaction status : ℕ) → 2 ≤ p .state
+    → Same p (hearOf s p k group (heard.Authentication algorithm transaction status))
+unfolding hearOf groupHeard stillOf repliedOf turnOf begunOf endedOf changedOf requestedOf
+heard-same s p k group algorithm transaction status two =
+    pick-both (Same p) (not (passesOf (s .role) k (p .state))) refl
+    (pick-both (Same p) group refl
+    (authentication-by s p (Same p) algorithm transaction status (λ a z. refl) (λ z. refl) (λ e. answer-keeps (s .rsna) (p .state) status two) refl))
 
-  -- At an access point: a request heard, and then answered by primitive 2, with whatever status.
-  pub repeated-at-ap :
-      s .role ≡ ap → 2 ≤ p .state → (aid : ℕ) (o : Others) (code : ℕ)
-      → askOf s aid (hearOf s p k group (heard.Authentication algorithm transaction status) .peer) o 2 code .peer .state ≡ p .state
+module _ (s : Settings) (p : Record) (two : 2 ≤ p .state) (k : FrameClass) (group : Bool) (algorithm transaction status aid : ℕ) (o : Others) where
+  -- A request heard, and then answered by primitive 2, with whatever status.
+  pub repeated-answered :
+      (code : ℕ) → askOf s aid (hearOf s p k group (heard.Authentication algorithm transaction status) .peer) o 2 code .peer .state ≡ p .state
   unfolding askOf answerOf turnOf endedOf changedOf
-  repeated-at-ap role two aid o code = rw (requested-same role) (answer-keeps (s .rsna) (p .state) code two)
+  repeated-answered code =
+      rw (heard-same s p k group algorithm transaction status two) (answer-keeps (s .rsna) (p .state) code two)
 
-  -- At a station: a request sent by primitive 1, and then answered, with whatever status.
-  pub repeated-at-station :
-      s .role ≡ station → 2 ≤ p .state → (aid : ℕ) (o : Others)
-      → hearOf s (askOf s aid p o 1 0 .peer) k group (heard.Authentication algorithm transaction status) .peer .state ≡ p .state
-  unfolding hearOf groupHeard stillOf repliedOf turnOf begunOf endedOf changedOf askOf startedOf authenticationHeard authenticationAtStation
-  repeated-at-station role two aid o =
-      pick-both (Same p) (not (passesOf k (p .state))) refl
-      (pick-both (Same p) group refl
-      (pick-by (Same p) (eqb (s .role) ap)
-      (λ a. wrong (rw role at a))
-      (λ a. pick-both (Same p) (eqb algorithm 0 && (eqb transaction 2 && true)) (answer-keeps (s .rsna) (p .state) status two) refl)))
+  -- A request sent by primitive 1, and then answered, with whatever status.
+  pub repeated-asked : hearOf s (askOf s aid p o 1 0 .peer) k group (heard.Authentication algorithm transaction status) .peer .state ≡ p .state
+  unfolding askOf startedOf turnOf begunOf changedOf
+  repeated-asked = heard-same s (askOf s aid p o 1 0 .peer) k group algorithm transaction status two
 
 -- ---- "Freeing a place at deauthentication: AIDs then depend on others."
 
@@ -179,15 +174,13 @@ Kept p t = t .peer .address ≡ p .address
 
 module _ (s : Settings) (p : Record) where
   act-kept : (h : Heard) → Kept p (actOf s p h)
-  unfolding stillOf repliedOf turnOf soleOf begunOf endedOf changedOf authenticationHeard authenticationAtAp authenticationAtStation requestedOf deauthenticationHeard disassociationHeard requestHeard responseHeard acceptedOf rejectedOf queryRequestHeard queryResponseHeard challengedOf queryingOf passedOf queriedOf
+  unfolding stillOf repliedOf turnOf soleOf begunOf endedOf changedOf requestedOf deauthenticationHeard disassociationHeard responseHeard acceptedOf rejectedOf queryRequestHeard queryResponseHeard challengedOf queryingOf passedOf queriedOf
   act-kept heard.Other = refl
   act-kept (heard.Authentication algorithm transaction status) =
-      pick-both (Kept p) (eqb (s .role) ap)
-      (pick-both (Kept p) (eqb transaction 1) (pick-both (Kept p) (eqb algorithm 0) refl refl) refl)
-      (pick-both (Kept p) (eqb algorithm 0 && (eqb transaction 2 && isSent kind.Authentication (p .exchange))) refl refl)
+      authentication-by s p (Kept p) algorithm transaction status (λ a z. refl) (λ z. refl) (λ e. refl) refl
   act-kept (heard.Deauthentication reason) = pick-both (Kept p) (ltb (p .state) 2) refl refl
   act-kept (heard.Disassociation reason) = pick-both (Kept p) (ltb (p .state) 3) refl refl
-  act-kept (heard.Request k current) = pick-both (Kept p) (eqb (s .role) ap) (pick-both (Kept p) (isChallenged s p) refl refl) refl
+  act-kept (heard.Request k current) = request-by s p (Kept p) k current (λ a c. refl) (λ a. refl) refl
   act-kept (heard.QueryRequest i) = pick-both (Kept p) (eqb (p .state) 4) refl refl
   act-kept (heard.QueryResponse i) = pick-both (Kept p) (eqb (p .state) 4 && (isRunning (p .query) && eqb i (p .identifier))) refl refl
   act-kept (heard.Response k status aid c) =
@@ -199,7 +192,7 @@ module _ (s : Settings) (p : Record) where
   pub hear-kept : (k : FrameClass) (group : Bool) (h : Heard) → Kept p (hearOf s p k group h)
   unfolding hearOf groupHeard stillOf repliedOf turnOf
   hear-kept k group h =
-      pick-both (Kept p) (not (passesOf k (p .state))) refl
+      pick-both (Kept p) (not (passesOf (s .role) k (p .state))) refl
       (pick-both (Kept p) group (pick-both (Kept p) (isExchange h) refl (pick-both (Kept p) (isQuery h) refl (act-kept h))) (act-kept h))
 
   -- and no primitive does.
@@ -228,7 +221,7 @@ module _ (s : Settings) (p : Record) where
 -- is awaited, and acknowledged.
 
 ours : ℕ → Settings
-ours role = record { own = 2; authentication = 100; association = 100; role = role; rsna = 0; edition = 1; protection = 0; retry = 201; maximum = 1000 }
+ours role = record { own = 2; network = 0; authentication = 100; association = 100; role = role; rsna = 0; edition = 1; protection = 0; retry = 201; maximum = 1000 }
 
 peer : ℕ → Record
 peer state = record { address = 4; state = state; exchange = None; left = 0; hold = 0; query = query.None; identifier = 0 }
@@ -238,14 +231,14 @@ awaiting = record { address = 4; state = 2; exchange = Awaiting kind.Association
 
 four-at-ap : askOf (ours ap) 1 (hearOf (ours ap) (peer 4) One false (heard.Authentication 0 1 0) .peer) nobody 2 0 .peer .state ≡ 4
 unfolding ours peer
-four-at-ap = repeated-at-ap (ours ap) (peer 4) One false 0 1 0 refl (omega arith) 1 nobody 0
+four-at-ap = repeated-answered (ours ap) (peer 4) (omega arith) One false 0 1 0 1 nobody 0
 
 four-at-station : hearOf (ours station) (askOf (ours station) 1 (peer 4) nobody 1 0 .peer) One false (heard.Authentication 0 2 0) .peer .state ≡ 4
 unfolding ours peer
-four-at-station = repeated-at-station (ours station) (peer 4) One false 0 2 0 refl (omega arith) 1 nobody
+four-at-station = repeated-asked (ours station) (peer 4) (omega arith) One false 0 2 0 1 nobody
 
 awaiting-fits : Fits (ours ap) awaiting
-unfolding ours awaiting recordFits queryAllowed holdFits awaitingFits askedFits stands validOf
+unfolding ours awaiting recordFits highestState queryAllowed holdFits awaitingFits askedFits stands roleAnswers roleAsks roleAssociates validOf
 awaiting-fits = fits-of (ours ap) awaiting refl
 
 raised : Raises awaiting 10 1

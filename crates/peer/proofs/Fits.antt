@@ -9,9 +9,9 @@ use borrow.Author.Tests.{le-leb, leb-true, eqb-true}
 use Rattle.octets.specs.Address.{validOf}
 use Rattle.octets.specs.declared.heard.Kind.the-variants.{Association, Authentication, Reassociation}
 use Rattle.octets.specs.declared.heard.Kind.{Kind}
-use Rattle.peer.specs.Fit.{stands, askedFits, awaitingFits, sentFits, exchangeFits, holdFits, queryAllowed, queryFits, recordFits, placeFits}
+use Rattle.peer.specs.Fit.{stands, askedFits, awaitingFits, sentFits, exchangeFits, highestState, holdFits, queryAllowed, queryFits, recordFits, placeFits}
 use Rattle.peer.specs.Record.{associates, changedOf, isAssociating, isFree, isJoined, isSent, queriedOf, underWay, askedOf}
-use Rattle.peer.specs.Settings.{ap, station, timeFits}
+use Rattle.peer.specs.Settings.{roleAnswers, roleAsks, roleAssociates, timeFits}
 use Rattle.peer.specs.declared.query.Query.{Query}
 use Rattle.peer.specs.declared.record.Exchange.the-variants.{Asked, Awaiting, None, Sent}
 use Rattle.peer.specs.declared.record.Exchange.{Exchange}
@@ -33,6 +33,10 @@ pub or-left : (a b : Bool) → (a || b) ≡ false → (a ≡ false) × (b ≡ fa
 or-left true b h = wrong (sym h)
 or-left false b h = (refl, h)
 
+pub and-none : (a b : Bool) → b ≡ false → (a && b) ≡ false
+and-none true b h = h
+and-none false b h = refl
+
 pub or-right : (a b : Bool) → b ≡ true → (a || b) ≡ true
 or-right true b h = refl
 or-right false b h = h
@@ -40,7 +44,7 @@ or-right false b h = h
 -- the clauses of `recordFits`
 pub record Fits (s : Settings) (p : Record) : Type 0 where
   pub low : 1 ≤ p .state
-  pub high : p .state ≤ 4
+  pub high : p .state ≤ highestState (s .role)
   pub apart : not (eqb (p .address) (s .own)) ≡ true
   pub valid : validOf (p .address) ≡ true
   pub held : holdFits (s .role) (p .hold) ≡ true
@@ -52,7 +56,7 @@ pub fits-of : (s : Settings) (p : Record) → recordFits s p ≡ true → Fits s
 unfolding recordFits queryAllowed
 fits-of s p h =
     let a = both (leb 1 (p .state)) _ h in
-    let b = both (leb (p .state) 4) _ (a .1) in
+    let b = both (leb (p .state) (highestState (s .role))) _ (a .1) in
     let c = both (not (eqb (p .address) (s .own))) _ (b .1) in
     let d = both (validOf (p .address)) _ (c .1) in
     let e = both (holdFits (s .role) (p .hold)) _ (d .1) in
@@ -60,7 +64,7 @@ fits-of s p h =
     let i = both (leb (p .identifier) 65535) _ (g .1) in
     record {
       low = leb-true 1 (p .state) (a .0);
-      high = leb-true (p .state) 4 (b .0);
+      high = leb-true (p .state) (highestState (s .role)) (b .0);
       apart = c .0;
       valid = d .0;
       held = e .0;
@@ -72,7 +76,7 @@ fits-of s p h =
 pub of-fits : (s : Settings) (p : Record) → Fits s p → recordFits s p ≡ true
 unfolding recordFits queryAllowed
 of-fits s p f =
-    rw (le-leb 1 (p .state) (f .low), le-leb (p .state) 4 (f .high), f .apart, f .valid, f .held, f .suits, le-leb (p .identifier) 65535 (f .numbered))
+    rw (le-leb 1 (p .state) (f .low), le-leb (p .state) (highestState (s .role)) (f .high), f .apart, f .valid, f .held, f .suits, le-leb (p .identifier) 65535 (f .numbered))
     (f .queries)
 
 -- The record q comes of p: it fits, and has the same address; and at a station it is in State 3 or 4, or has a (re)association under way,
@@ -80,15 +84,15 @@ of-fits s p f =
 pub record Keeps (s : Settings) (busy : Bool) (p q : Record) (sole : Bool) : Type 0 where
   pub fits : Fits s q
   pub same : q .address ≡ p .address
-  pub joins : eqb (s .role) ap ≡ false → sole ≡ false → isJoined q ≡ true → isJoined p ≡ true
-  pub starts : eqb (s .role) ap ≡ false → busy ≡ true → associates q ≡ true → associates p ≡ true
+  pub joins : roleAnswers (s .role) ≡ false → sole ≡ false → isJoined q ≡ true → isJoined p ≡ true
+  pub starts : roleAnswers (s .role) ≡ false → busy ≡ true → associates q ≡ true → associates p ≡ true
 
 -- The place q comes of p: the same, but that it may be free.
 pub record Placed (s : Settings) (busy : Bool) (p q : Record) (sole : Bool) : Type 0 where
   pub place : placeFits s q ≡ true
   pub same : eqb (q .address) 0 ≡ false → q .address ≡ p .address
-  pub joins : eqb (s .role) ap ≡ false → sole ≡ false → isJoined q ≡ true → isJoined p ≡ true
-  pub starts : eqb (s .role) ap ≡ false → busy ≡ true → associates q ≡ true → associates p ≡ true
+  pub joins : roleAnswers (s .role) ≡ false → sole ≡ false → isJoined q ≡ true → isJoined p ≡ true
+  pub starts : roleAnswers (s .role) ≡ false → busy ≡ true → associates q ≡ true → associates p ≡ true
 
 pub placed : {s : Settings} {busy sole : Bool} {p q : Record} → Keeps s busy p q sole → Placed s busy p q sole
 unfolding placeFits
@@ -114,14 +118,14 @@ suits-still None role state left state′ left′ h z l k = rw (← z) h
 suits-still (Asked a) role state left state′ left′ h z l k = rw (← z, ← k) h
 suits-still (Awaiting a) role state left state′ left′ h z l k = rw (← z, ← k) h
 suits-still (Sent a) role state left state′ left′ h z l k =
-    let r = both (eqb role station) _ h in
+    let r = both (roleAsks role) _ h in
     let t = both (timeFits left) _ (r .1) in
     rw (r .0, time-still left left′ (t .0) z l, ← k) (t .1)
 
 asked-short : (k : Kind) (role state left : ℕ) → askedFits k role state left ≡ true → left ≤ 65535
 unfolding askedFits
 asked-short k role state left h =
-    let z : left ≡ 0 = eqb-true left 0 (both (eqb left 0) _ (both (eqb role ap) _ h .1) .0) in omega arith
+    let z : left ≡ 0 = eqb-true left 0 (both (eqb left 0) _ (both (roleAnswers role) _ h .1) .0) in omega arith
 
 -- whatever the exchange, its time left is in range
 pub suits-short : (e : Exchange) (role state left : ℕ) → exchangeFits e role state left ≡ true → left ≤ 65535
@@ -130,33 +134,33 @@ suits-short None role state left h = let z : left ≡ 0 = eqb-true left 0 h in o
 suits-short (Asked k) role state left h = asked-short k role state left h
 suits-short (Awaiting k) role state left h = asked-short k role state left (both (isAssociating k) _ h .1)
 suits-short (Sent k) role state left h =
-    leb-true left 65535 (both (not (eqb left 0)) _ (both (timeFits left) _ (both (eqb role station) _ h .1) .0) .1)
+    leb-true left 65535 (both (not (eqb left 0)) _ (both (timeFits left) _ (both (roleAsks role) _ h .1) .0) .1)
 
--- an exchange that was sent is a station's
-pub sent-station :
+-- an exchange that was sent is one of a role that asks
+pub sent-asks :
     (e : Exchange) (k : Kind) (role state left : ℕ) → exchangeFits e role state left ≡ true → isSent k e ≡ true
-    → eqb role ap ≡ false
+    → roleAsks role ≡ true
 unfolding sentFits
-sent-station None Authentication role state left h q = wrong q
-sent-station None Association role state left h q = wrong q
-sent-station None Reassociation role state left h q = wrong q
-sent-station (Asked a) Authentication role state left h q = wrong q
-sent-station (Asked a) Association role state left h q = wrong q
-sent-station (Asked a) Reassociation role state left h q = wrong q
-sent-station (Awaiting a) Authentication role state left h q = wrong q
-sent-station (Awaiting a) Association role state left h q = wrong q
-sent-station (Awaiting a) Reassociation role state left h q = wrong q
-sent-station (Sent a) k role state left h q = rw (eqb-true role station (both (eqb role station) _ h .0))
+sent-asks None Authentication role state left h q = wrong q
+sent-asks None Association role state left h q = wrong q
+sent-asks None Reassociation role state left h q = wrong q
+sent-asks (Asked a) Authentication role state left h q = wrong q
+sent-asks (Asked a) Association role state left h q = wrong q
+sent-asks (Asked a) Reassociation role state left h q = wrong q
+sent-asks (Awaiting a) Authentication role state left h q = wrong q
+sent-asks (Awaiting a) Association role state left h q = wrong q
+sent-asks (Awaiting a) Reassociation role state left h q = wrong q
+sent-asks (Sent a) k role state left h q = both (roleAsks role) _ h .0
 
--- a (re)association asked stands in State 2 or above
+-- a (re)association asked stands where the role takes part in associations, in State 2 or above
 pub asked-stands :
     (e : Exchange) (n role state left : ℕ) → exchangeFits e role state left ≡ true → leb 2 n ≡ true → eqb (askedOf e) n ≡ true
-    → leb 2 state ≡ true
+    → (roleAssociates role && leb 2 state) ≡ true
 unfolding askedFits stands
 asked-stands None n role state left h two q = wrong (rw (← eqb-true 0 n q) at two)
 asked-stands (Asked Authentication) n role state left h two q = wrong (rw (← eqb-true 1 n q) at two)
-asked-stands (Asked Association) n role state left h two q = both (eqb left 0) _ (both (eqb role ap) _ h .1) .1
-asked-stands (Asked Reassociation) n role state left h two q = both (eqb left 0) _ (both (eqb role ap) _ h .1) .1
+asked-stands (Asked Association) n role state left h two q = both (eqb left 0) _ (both (roleAnswers role) _ h .1) .1
+asked-stands (Asked Reassociation) n role state left h two q = both (eqb left 0) _ (both (roleAnswers role) _ h .1) .1
 asked-stands (Awaiting k) n role state left h two q = wrong (rw (← eqb-true 0 n q) at two)
 asked-stands (Sent k) n role state left h two q = wrong (rw (← eqb-true 0 n q) at two)
 
@@ -178,10 +182,10 @@ module _ (s : Settings) (busy : Bool) (p : Record) (f : Fits s p) where
   keeps-all = record { fits = f; same = refl; joins = λ a b c. c; starts = λ a b c. c }
 
   pub keeps-changed :
-      (state : ℕ) (e : Exchange) (left hold : ℕ) (sole : Bool) → 1 ≤ state → state ≤ 4 → holdFits (s .role) hold ≡ true
+      (state : ℕ) (e : Exchange) (left hold : ℕ) (sole : Bool) → 1 ≤ state → state ≤ highestState (s .role) → holdFits (s .role) hold ≡ true
       → exchangeFits e (s .role) state left ≡ true
-      → (eqb (s .role) ap ≡ false → sole ≡ false → leb 3 state ≡ true → leb 3 (p .state) ≡ true)
-      → (eqb (s .role) ap ≡ false → busy ≡ true → leb 2 (underWay e) ≡ true → leb 2 (underWay (p .exchange)) ≡ true)
+      → (roleAnswers (s .role) ≡ false → sole ≡ false → leb 3 state ≡ true → leb 3 (p .state) ≡ true)
+      → (roleAnswers (s .role) ≡ false → busy ≡ true → leb 2 (underWay e) ≡ true → leb 2 (underWay (p .exchange)) ≡ true)
       → Keeps s busy p (changedOf p state e left hold) sole
   unfolding changedOf isJoined associates
   keeps-changed state e left hold sole low high held suits joins starts =

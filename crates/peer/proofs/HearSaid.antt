@@ -9,13 +9,12 @@ use native.Mathlib.Omega.{arith}
 use lib.Dec.{eqb, leb, ltb}
 use borrow.Author.Tests.{eqb-true, leb-false, not-true, not-false}
 use Rattle.octets.proofs.Below.{heard-fits}
-use lib.ListN.{length}
 use Rattle.octets.proofs.Branch.{and-left, and-right, by-bool, pick-both, pick-by}
 use Rattle.octets.specs.Address.{validOf}
-use Rattle.octets.specs.Class.{classless, classOf, isPublicAction, numberOf}
-use Rattle.octets.specs.Field.{allOctets, field, octets, subtypeOf, typeOf, versionOf}
+use Rattle.octets.specs.Class.{classIn, classless, classOf, isPublicAction, numberOf}
+use Rattle.octets.specs.Field.{allOctets, octets}
 use Rattle.octets.specs.Frame.{aidField, bodyOf, bytesOf, capabilityOf, headOf}
-use Rattle.octets.specs.Heard.{authenticationOf, heardOf, queryOf, responseOf}
+use Rattle.octets.specs.Heard.{heardOf}
 use Rattle.octets.specs.Read.{HeardFits, association-later, association-response, authentication, deauthentication, disassociation, query-response, reassociation-later, reassociation-response}
 use Rattle.octets.specs.declared.class.FrameClass.the-variants as class
 use Rattle.octets.specs.declared.class.FrameClass.{FrameClass}
@@ -24,8 +23,8 @@ use Rattle.octets.specs.declared.heard.Heard.the-variants as heard
 use Rattle.octets.specs.declared.heard.Heard.{Heard}
 use Rattle.octets.specs.declared.heard.Kind.the-variants.{Association, Authentication, Reassociation}
 use Rattle.octets.specs.declared.heard.Kind.{Kind}
-use Rattle.peer.specs.Association.{acceptedOf, rejectedOf, requestHeard, responseHeard}
-use Rattle.peer.specs.Authentication.{authenticationAtAp, authenticationAtStation, authenticationHeard, fullOf, requestedOf}
+use Rattle.peer.specs.Association.{acceptedOf, rejectedOf, responseHeard}
+use Rattle.peer.specs.Authentication.{fullOf, requestedOf}
 use Rattle.peer.specs.Challenge.{challengedOf, isChallenged, queryRequestHeard, queryResponseHeard}
 use Rattle.peer.specs.Codes.{lastAid}
 use Rattle.peer.specs.Farewell.{deauthenticationHeard, disassociationHeard}
@@ -33,57 +32,18 @@ use Rattle.peer.specs.Filter.{barredBy, barredOf, filteredOf, passesOf, 
 use Rattle.peer.specs.Hear.{actOf, groupHeard, hearOf, isExchange, isQuery}
 use Rattle.peer.specs.Query.{isRunning, queryLeft, runningOf}
 use Rattle.peer.specs.Record.{changedOf, freshOf, isAssociating, kindOf, queriedOf, sentOf, underWay}
-use Rattle.peer.specs.Reply.{apAddress, authenticationTo, deauthenticationTo, disassociationTo, laterTo, queryTo, responseTo, sendOf}
+use Rattle.peer.specs.Reply.{authenticationTo, deauthenticationTo, disassociationTo, laterTo, networkAddress, queryTo, responseTo, sendOf}
 use Rattle.peer.specs.Said.{ReadsTo, Speaks, barredSays, repliedSays}
-use Rattle.peer.specs.Settings.{ap, queryTimesFit, settingsFit, timeFits}
+use Rattle.peer.specs.Settings.{ap, networkFits, queryTimesFit, roleAssociates, settingsFit, timeFits}
 use Rattle.peer.specs.Turn.{begunOf, endedOf, repliedOf, soleOf, stillOf, turnOf}
 use Rattle.peer.specs.declared.record.Record.{Record}
 use Rattle.peer.specs.declared.settings.Settings.{Settings}
 use Rattle.peer.specs.declared.turn.Turn.{Turn}
-use Rattle.peer.proofs.Fits.{wrong}
+use Rattle.peer.proofs.Classes.{Classed, classed}
+use Rattle.peer.proofs.Fits.{and-none, wrong}
 use Rattle.peer.proofs.QueryFits.{maximum-short, running-short}
+use Rattle.peer.proofs.Roles.{authentication-by, barred-by, request-barred-by, request-by}
 use Rattle.peer.proofs.Sent.{capability-below, sent}
-
--- ---- the class of what is heard
-
--- authentication is of class 1, a (re)association request of class 2
-abbrev pub Classed : FrameClass → Heard → Type 0
-Classed k heard.Other = Unit
-Classed k (heard.Authentication algorithm transaction status) = k ≡ class.One
-Classed k (heard.Deauthentication reason) = Unit
-Classed k (heard.Disassociation reason) = Unit
-Classed k (heard.Request kind current) = (k ≡ class.Two) × (isAssociating kind ≡ true)
-Classed k (heard.Response kind status aid comeback) = Unit
-Classed k (heard.QueryRequest identifier) = Unit
-Classed k (heard.QueryResponse identifier) = Unit
-
--- a frame that has a class has version 0
-version-zero : (xs : List ℕ) → classless (classOf xs) ≡ false → eqb (versionOf (field 1 0 xs)) 0 ≡ true
-unfolding classOf
-version-zero xs h = by-bool (eqb (versionOf (field 1 0 xs)) 0) (λ e. e) (λ e. wrong (sym (rw e at h)))
-
-query-classed : (k : FrameClass) (xs : List ℕ) → Classed k (queryOf xs)
-unfolding queryOf
-query-classed k xs =
-    let C : Heard → Type 0 = Classed k in
-    pick-both C (ltb (length xs) 28) tt
-    (pick-both C (eqb (field 1 24 xs) 8) (pick-both C (eqb (field 1 25 xs) 0) tt (pick-both C (eqb (field 1 25 xs) 1) tt tt)) tt)
-
-pub classed : (xs : List ℕ) → classless (classOf xs) ≡ false → Classed (classOf xs) (heardOf xs)
-unfolding classOf isPublicAction heardOf authenticationOf responseOf
-classed xs h =
-    let v = version-zero xs h in
-    by-bool (eqb (typeOf (field 1 0 xs)) 0)
-    (λ t.
-    by-bool (eqb (subtypeOf (field 1 0 xs)) 0) (λ e. rw (v, t, e, eqb-true (subtypeOf (field 1 0 xs)) 0 e) (refl, refl)) (λ e0.
-    by-bool (eqb (subtypeOf (field 1 0 xs)) 1) (λ e. rw (t, e0, e) tt) (λ e1.
-    by-bool (eqb (subtypeOf (field 1 0 xs)) 2) (λ e. rw (v, t, e0, e1, e, eqb-true (subtypeOf (field 1 0 xs)) 2 e) (refl, refl)) (λ e2.
-    by-bool (eqb (subtypeOf (field 1 0 xs)) 3) (λ e. rw (t, e0, e1, e2, e) tt) (λ e3.
-    by-bool (eqb (subtypeOf (field 1 0 xs)) 10) (λ e. rw (t, e0, e1, e2, e3, e) tt) (λ e4.
-    by-bool (eqb (subtypeOf (field 1 0 xs)) 11) (λ e. rw (v, t, e0, e1, e2, e3, e4, e, eqb-true (subtypeOf (field 1 0 xs)) 11 e) refl) (λ e5.
-    by-bool (eqb (subtypeOf (field 1 0 xs)) 12) (λ e. rw (t, e0, e1, e2, e3, e4, e5, e) tt) (λ e6.
-    by-bool (eqb (subtypeOf (field 1 0 xs)) 13) (λ e. rw (t, e0, e1, e2, e3, e4, e5, e6, e) (query-classed _ xs)) (λ e7. rw (t, e0, e1, e2, e3, e4, e5, e6, e7) tt)))))))))
-    (λ t. rw t tt)
 
 -- ---- the replies
 
@@ -111,31 +71,35 @@ module _ (s : Settings) (fit : settingsFit s ≡ true) (p : Record) (valid : val
   later Reassociation time a l = sent s fit (p .address) valid reassociation-later (omega arith) (capability-below (s .rsna), omega arith, omega arith)
 
   -- a frame that is kept out in State 4 has no class, and is not answered
-  none-four : (k : FrameClass) (w : Heard) → passesOf k (p .state) ≡ false → eqb (p .state) 4 ≡ true → Speaks s (p .address) w (filteredOf s p k)
-  none-four class.None w e four = tt
-  none-four class.One w e four = tt
-  none-four class.Two w e four = wrong (sym (rw (eqb-true (p .state) 4 four) at e))
-  none-four class.Three w e four = wrong (sym (rw (eqb-true (p .state) 4 four) at e))
+  none-four :
+      (k : FrameClass) (w : Heard) → roleAssociates (s .role) ≡ true → passesOf (s .role) k (p .state) ≡ false → eqb (p .state) 4 ≡ true
+      → Speaks s (p .address) w (filteredOf s p k)
+  none-four class.None w on e four = tt
+  none-four class.One w on e four = tt
+  none-four class.Two w on e four = wrong (sym (rw (on, eqb-true (p .state) 4 four) at e))
+  none-four class.Three w on e four = wrong (sym (rw (on, eqb-true (p .state) 4 four) at e))
 
   -- class 2 is kept out in State 1 only
   state-one : leb 2 (p .state) ≡ false → p .state ≡ 1
   state-one e = let h = leb-false 2 (p .state) e in omega arith
 
   request-barred : (k : Kind) (current : ℕ) → isAssociating k ≡ true → leb 2 (p .state) ≡ false → Speaks s (p .address) (repliedSays s (p .state) (p .query) 2 (heard.Request k current)) (requestBarred s p class.Two k)
-  unfolding requestBarred
-  request-barred k current a e = by-bool (eqb (s .role) ap)
+  request-barred k current a e =
+      request-barred-by s p (Speaks s (p .address) (repliedSays s (p .state) (p .query) 2 (heard.Request k current))) class.Two k
       (λ r. rw (r, state-one e) (refused k a))
       (λ r. rw (r, state-one e) (filtered class.Two))
 
-  barred : (k : FrameClass) (h : Heard) → Classed k h → passesOf k (p .state) ≡ false → Speaks s (p .address) (repliedSays s (p .state) (p .query) (numberOf k) h) (barredBy s p k h)
-  barred k heard.Other c e = filtered k
-  barred k (heard.Authentication algorithm transaction status) c e = wrong (sym (rw c at e))
-  barred k (heard.Deauthentication reason) c e = filtered k
-  barred k (heard.Disassociation reason) c e = filtered k
-  barred k (heard.Request kind current) c e = rw (c .0) (request-barred kind current (c .1) (rw (c .0) at e))
-  barred k (heard.Response kind status aid comeback) c e = filtered k
-  barred k (heard.QueryRequest identifier) c e = by-bool (eqb (p .state) 4) (λ four. none-four k _ e four) (λ four. rw four (filtered k))
-  barred k (heard.QueryResponse identifier) c e = filtered k
+  barred :
+      (k : FrameClass) (h : Heard) → Classed k h → roleAssociates (s .role) ≡ true → passesOf (s .role) k (p .state) ≡ false
+      → Speaks s (p .address) (repliedSays s (p .state) (p .query) (numberOf k) h) (barredBy s p k h)
+  barred k heard.Other c on e = filtered k
+  barred k (heard.Authentication algorithm transaction status) c on e = wrong (sym (rw c at e))
+  barred k (heard.Deauthentication reason) c on e = filtered k
+  barred k (heard.Disassociation reason) c on e = filtered k
+  barred k (heard.Request kind current) c on e = rw (c .0) (request-barred kind current (c .1) (rw (c .0, on) at e))
+  barred k (heard.Response kind status aid comeback) c on e = filtered k
+  barred k (heard.QueryRequest identifier) c on e = by-bool (eqb (p .state) 4) (λ four. none-four k _ on e four) (λ four. rw four (filtered k))
+  barred k (heard.QueryResponse identifier) c on e = filtered k
 
   -- a frame that passes
   abbrev Turned : Heard → Turn → Type 0
@@ -146,22 +110,20 @@ module _ (s : Settings) (fit : settingsFit s ≡ true) (p : Record) (valid : val
   challenged n current k a c =
       let b = and-right (eqb (s .protection) 1) _ (and-right (eqb (s .edition) 2) _ c) in
       let four = and-left (eqb (p .state) 4) _ b in
-      let one : (eqb (s .role) ap && eqb (p .state) 1) ≡ false = by-bool (eqb (s .role) ap) (λ r. rw (r, eqb-true (p .state) 4 four)) (λ r. rw r) in
+      let one = and-none (eqb (s .role) ap) (eqb (p .state) 1) (rw (eqb-true (p .state) 4 four)) in
       rw (one, four) (later k (queryLeft (runningOf s (p .query))) a (running-short s (p .query) soon (maximum-short s fit)))
 
   acted : (k : FrameClass) (h : Heard) → Classed k h → HeardFits h → Turned (repliedSays s (p .state) (p .query) (numberOf k) h) (actOf s p h)
-  unfolding queryRequestHeard queryResponseHeard queryTo stillOf repliedOf turnOf authenticationHeard authenticationAtAp authenticationAtStation requestedOf deauthenticationHeard disassociationHeard requestHeard responseHeard acceptedOf rejectedOf soleOf authenticationTo
+  unfolding queryRequestHeard queryResponseHeard queryTo stillOf repliedOf turnOf requestedOf deauthenticationHeard disassociationHeard responseHeard acceptedOf rejectedOf soleOf authenticationTo
   acted k heard.Other c f = tt
   acted k (heard.Authentication a t st) c f =
-      pick-both (Turned _) (eqb (s .role) 1)
-      (pick-both (Turned _) (eqb t 1)
-      (pick-by (Turned _) (eqb a 0) (λ e. tt) (λ e. rw e (sent s fit (p .address) valid authentication (omega arith) (f .0, omega arith, omega arith))))
-      tt)
-      (pick-both (Turned _) (eqb a 0 && (eqb t 2 && eqb (sentOf (p .exchange)) 1)) tt tt)
+      authentication-by s p (Turned (repliedSays s (p .state) (p .query) (numberOf k) (heard.Authentication a t st))) a t st (λ r z. tt)
+      (λ z. rw z (sent s fit (p .address) valid authentication (omega arith) (f .0, omega arith, omega arith))) (λ e. tt) tt
   acted k (heard.Deauthentication r) c f = pick-both (Turned _) (ltb (p .state) 2) tt tt
   acted k (heard.Disassociation r) c f = pick-both (Turned _) (ltb (p .state) 3) tt tt
   acted k (heard.Request kind current) c f =
-      pick-both (Turned _) (eqb (s .role) 1) (pick-by (Turned _) (isChallenged s p) (λ e. challenged (numberOf k) current kind (c .1) e) (λ e. tt)) tt
+      request-by s p (Turned (repliedSays s (p .state) (p .query) (numberOf k) (heard.Request kind current))) kind current
+      (λ r e. challenged (numberOf k) current kind (c .1) e) (λ r. tt) tt
   acted k (heard.Response kind st aid comeback) c f =
       pick-both (Turned _) (eqb (sentOf (p .exchange)) (kindOf kind))
       (pick-both (Turned _) (eqb st 0) (pick-both (Turned _) (eqb aid 0 || ltb lastAid aid) tt tt) tt)
@@ -172,18 +134,18 @@ module _ (s : Settings) (fit : settingsFit s ≡ true) (p : Record) (valid : val
       pick-both (Turned _) (eqb (p .state) 4 && (isRunning (p .query) && eqb identifier (p .identifier))) tt tt
 
   heard-said : (k : FrameClass) (group : Bool) (h : Heard) → Classed k h → HeardFits h → Turned (repliedSays s (p .state) (p .query) (numberOf k) h) (hearOf s p k group h)
-  unfolding hearOf groupHeard barredOf repliedOf stillOf turnOf
+  unfolding hearOf groupHeard repliedOf stillOf turnOf
   heard-said k group h c f =
       let w = repliedSays s (p .state) (p .query) (numberOf k) h in
-      pick-by (Turned w) (not (passesOf k (p .state)))
-      (λ e. pick-both (Speaks s (p .address) w) group tt (barred k h c (not-true _ e)))
+      pick-by (Turned w) (not (passesOf (s .role) k (p .state)))
+      (λ e. barred-by s p (Speaks s (p .address) w) k group h tt (λ on. barred k h c on (not-true _ e)))
       (λ e. pick-both (Turned w) group (pick-both (Turned w) (isExchange h) tt (pick-both (Turned w) (isQuery h) tt (acted k h c f))) (acted k h c f))
 
-  -- The reply to a frame xs that has a class.
+  -- The reply to a frame xs that has a class, where there are access points (i) and where there are none.
   pub hear-said :
-      (xs : List ℕ) → allOctets xs ≡ true → classless (classOf xs) ≡ false → (group : Bool)
-      → Speaks s (p .address) (repliedSays s (p .state) (p .query) (numberOf (classOf xs)) (heardOf xs)) (hearOf s p (classOf xs) group (heardOf xs) .reply)
-  hear-said xs o k group = heard-said (classOf xs) group (heardOf xs) (classed xs k) (heard-fits xs o)
+      (i : Bool) (xs : List ℕ) → allOctets xs ≡ true → classless (classIn i xs) ≡ false → (group : Bool)
+      → Speaks s (p .address) (repliedSays s (p .state) (p .query) (numberOf (classIn i xs)) (heardOf xs)) (hearOf s p (classIn i xs) group (heardOf xs) .reply)
+  hear-said i xs o k group = heard-said (classIn i xs) group (heardOf xs) (classed i xs k) (heard-fits xs o)
 
   -- ---- where no place is free
 
@@ -195,20 +157,16 @@ module _ (s : Settings) (fit : settingsFit s ≡ true) (p : Record) (valid : val
     none-begun : {P : Type 0} → eqb (underWay (p .exchange)) 0 ≡ false → P
     none-begun n = wrong (sym (rw idle at n))
 
-    acted-full : (k : FrameClass) (h : Heard) → Classed k h → passesOf k (p .state) ≡ true → Filled (repliedSays s (p .state) (p .query) (numberOf k) h) (actOf s p h)
-    unfolding queryRequestHeard queryResponseHeard queriedOf stillOf repliedOf turnOf authenticationHeard authenticationAtAp authenticationAtStation requestedOf begunOf endedOf changedOf deauthenticationHeard disassociationHeard requestHeard responseHeard acceptedOf rejectedOf soleOf authenticationTo fullOf
+    acted-full : (k : FrameClass) (h : Heard) → Classed k h → passesOf (s .role) k (p .state) ≡ true → Filled (repliedSays s (p .state) (p .query) (numberOf k) h) (actOf s p h)
+    unfolding queryRequestHeard queryResponseHeard queriedOf stillOf repliedOf turnOf requestedOf begunOf endedOf changedOf deauthenticationHeard disassociationHeard responseHeard acceptedOf rejectedOf soleOf authenticationTo fullOf
     acted-full k heard.Other c e = none-begun
     acted-full k (heard.Authentication a t st) c e =
-        pick-both (Filled _) (eqb (s .role) 1)
-        (pick-both (Filled _) (eqb t 1)
-        (pick-by (Filled _) (eqb a 0)
-        (λ z n. rw (eqb-true a 0 z) (sent s fit (p .address) valid authentication (omega arith) (omega arith, omega arith, omega arith)))
-        (λ z. none-begun))
-        none-begun)
-        (pick-both (Filled _) (eqb a 0 && (eqb t 2 && eqb (sentOf (p .exchange)) 1)) (λ n. wrong (sym n)) none-begun)
+        authentication-by s p (Filled (repliedSays s (p .state) (p .query) (numberOf k) (heard.Authentication a t st))) a t st
+        (λ r z n. rw (eqb-true a 0 z) (sent s fit (p .address) valid authentication (omega arith) (omega arith, omega arith, omega arith)))
+        (λ z. none-begun) (λ e n. wrong (sym n)) none-begun
     acted-full k (heard.Deauthentication r) c e = pick-both (Filled _) (ltb (p .state) 2) none-begun (λ n. wrong (sym n))
     acted-full k (heard.Disassociation r) c e = pick-both (Filled _) (ltb (p .state) 3) none-begun (λ n. wrong (sym n))
-    acted-full k (heard.Request kind current) c e = wrong (rw (c .0, one) at e)
+    acted-full k (heard.Request kind current) c e = wrong (and-right (roleAssociates (s .role)) _ (rw (c .0, one) at e))
     acted-full k (heard.Response kind st aid comeback) c e =
         pick-both (Filled _) (eqb (sentOf (p .exchange)) (kindOf kind))
         (pick-both (Filled _) (eqb st 0) (pick-both (Filled _) (eqb aid 0 || ltb lastAid aid) none-begun (λ n. wrong (sym n))) (λ n. wrong (sym n)))
@@ -219,21 +177,21 @@ module _ (s : Settings) (fit : settingsFit s ≡ true) (p : Record) (valid : val
 
     -- The reply to a stranger's frame xs that would begin an exchange.
     pub full-said :
-        (xs : List ℕ) → classless (classOf xs) ≡ false → (group : Bool)
-        → eqb (underWay (hearOf s p (classOf xs) group (heardOf xs) .peer .exchange)) 0 ≡ false
-        → Speaks s (p .address) (repliedSays s (p .state) (p .query) (numberOf (classOf xs)) (heardOf xs)) (fullOf s p .reply)
+        (i : Bool) (xs : List ℕ) → classless (classIn i xs) ≡ false → (group : Bool)
+        → eqb (underWay (hearOf s p (classIn i xs) group (heardOf xs) .peer .exchange)) 0 ≡ false
+        → Speaks s (p .address) (repliedSays s (p .state) (p .query) (numberOf (classIn i xs)) (heardOf xs)) (fullOf s p .reply)
     unfolding hearOf groupHeard repliedOf stillOf turnOf
-    full-said xs k group =
-        let w = repliedSays s (p .state) (p .query) (numberOf (classOf xs)) (heardOf xs) in
-        pick-by (Filled w) (not (passesOf (classOf xs) (p .state)))
+    full-said i xs k group =
+        let w = repliedSays s (p .state) (p .query) (numberOf (classIn i xs)) (heardOf xs) in
+        pick-by (Filled w) (not (passesOf (s .role) (classIn i xs) (p .state)))
         (λ e. none-begun)
         (λ e.
-        let acts = acted-full (classOf xs) (heardOf xs) (classed xs k) (not-false _ e) in
+        let acts = acted-full (classIn i xs) (heardOf xs) (classed i xs k) (not-false _ e) in
         pick-both (Filled w) group (pick-both (Filled w) (isExchange (heardOf xs)) none-begun (pick-both (Filled w) (isQuery (heardOf xs)) none-begun acts)) acts)
 
 -- An example: an AP, own address 0a, hears a reassociation request of a stranger, 0e.
 abbrev home : Settings
-home = record { role = 1; own = 0x0a; rsna = 0; authentication = 10; association = 10; edition = 1; protection = 0; retry = 201; maximum = 1000 }
+home = record { role = 1; own = 0x0a; network = 0; rsna = 0; authentication = 10; association = 10; edition = 1; protection = 0; retry = 201; maximum = 1000 }
 
 abbrev asking : List ℕ
 asking =
@@ -244,5 +202,5 @@ answered :
     ReadsTo home 0x0e (heard.Response Reassociation 1 0 Absent)
     (0x30 ∷ 0 ∷ 0 ∷ 0 ∷ 0x0e ∷ 0 ∷ 0 ∷ 0 ∷ 0 ∷ 0 ∷ 0x0a ∷ 0 ∷ 0 ∷ 0 ∷ 0 ∷ 0 ∷ 0x0a ∷ 0 ∷ 0 ∷ 0 ∷ 0 ∷ 0 ∷ 0 ∷ 0 ∷
     0x01 ∷ 0 ∷ 1 ∷ 0 ∷ 0 ∷ 0 ∷ [])
-unfolding hearOf repliedOf turnOf barredOf requestBarred responseTo sendOf apAddress capabilityOf aidField bytesOf headOf bodyOf octets settingsFit queryTimesFit timeFits validOf freshOf classOf isPublicAction heardOf
-answered = hear-said home refl (freshOf 0x0e) refl (omega arith) (omega arith) asking refl refl false .1
+unfolding hearOf repliedOf turnOf barredOf requestBarred responseTo sendOf networkAddress capabilityOf aidField bytesOf headOf bodyOf octets settingsFit queryTimesFit timeFits networkFits roleAssociates validOf freshOf classIn classOf isPublicAction heardOf
+answered = hear-said home refl (freshOf 0x0e) refl (omega arith) (omega arith) true asking refl refl false .1

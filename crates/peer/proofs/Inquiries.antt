@@ -21,18 +21,18 @@ use Rattle.octets.specs.declared.heard.Heard.{Heard}
 use Rattle.octets.specs.declared.heard.Kind.the-variants as kind
 use Rattle.octets.specs.declared.heard.Kind.{Kind}
 use Rattle.peer.specs.Ask.{answerOf, askOf, associateOf, awaitedOf, deauthenticateOf, declinedOf, disassociateOf, failedOf, reassociateOf, reportOf, respondOf, secureOf, startedOf}
-use Rattle.peer.specs.Association.{acceptedOf, rejectedOf, requestHeard, responseHeard}
-use Rattle.peer.specs.Authentication.{authenticationAtAp, authenticationAtStation, authenticationHeard, requestedOf}
-use Rattle.peer.specs.Challenge.{challengedOf, inquiredOf, isChallenged, queryRequestHeard, queryResponseHeard}
+use Rattle.peer.specs.Association.{acceptedOf, rejectedOf, responseHeard}
+use Rattle.peer.specs.Authentication.{requestedOf}
+use Rattle.peer.specs.Challenge.{challengedOf, inquiredOf, queryRequestHeard, queryResponseHeard}
 use Rattle.peer.specs.Codes.{lastAid, statusLater}
 use Rattle.peer.specs.Farewell.{deauthenticationHeard, disassociationHeard}
-use Rattle.peer.specs.Filter.{barredBy, barredOf, filteredOf, passesOf, requestBarred}
+use Rattle.peer.specs.Filter.{barredBy, filteredOf, passesOf}
 use Rattle.peer.specs.Hear.{actOf, groupHeard, hearOf, isExchange, isQuery}
 use Rattle.peer.specs.Query.{isDue, isRunning, isTimedOut, queryLeft, runningOf, sentQuery}
 use Rattle.peer.specs.Record.{isSent, queriedOf}
 use Rattle.peer.specs.Refuse.{codeAllowed, mismatchOf}
 use Rattle.peer.specs.Reply.{authenticationTo, deauthenticationTo, disassociationTo, laterTo, queryTo, requestTo, responseTo, sendOf}
-use Rattle.peer.specs.Settings.{ap}
+use Rattle.peer.specs.Settings.{roleAssociates}
 use Rattle.peer.specs.Turn.{repliedOf, soleOf, stillOf, turnOf}
 use Rattle.peer.specs.declared.query.Query.the-variants as query
 use Rattle.peer.specs.declared.query.Query.{Query}
@@ -44,15 +44,16 @@ use Rattle.peer.specs.declared.settings.Settings.{Settings}
 use Rattle.peer.specs.declared.turn.Turn.{Turn}
 use Rattle.peer.proofs.Fits.{wrong}
 use Rattle.peer.proofs.Queries.{Guarded, guarded, joined, requested, site}
+use Rattle.peer.proofs.Roles.{authentication-by, barred-by, request-barred-by, request-by}
 
 -- "is answered with status 30, AID 0 and .. the query's remaining TU": a group address is not answered
 pub forged-reply :
     (s : Settings) → Guarded s → (p : Record) → p .state ≡ 4 → isTimedOut (p .query) ≡ false → (k : FrameClass) (group : Bool) (kind : Kind) (current : ℕ)
-    → passesOf k 4 ≡ true
+    → passesOf (s .role) k 4 ≡ true
     → hearOf s p k group (heard.Request kind current) .reply ≡ pick group Silent (laterTo s (p .address) kind statusLater (queryLeft (runningOf s (p .query))))
 unfolding hearOf groupHeard stillOf repliedOf turnOf challengedOf
 forged-reply s g p four waits k group kind current through =
-    let here : passesOf k (p .state) ≡ true = rw four through in
+    let here : passesOf (s .role) k (p .state) ≡ true = rw four through in
     by-bool group (λ b. rw (here, b)) (λ b. rw (here, b, requested s g p four waits kind current))
 
 -- The request of a query, among all that is sent.
@@ -81,26 +82,24 @@ module _ (s : Settings) (p : Record) where
   filtered class.Three = pick-both (λ r. isInquiry r ≡ false) (eqb (p .state) 1) refl refl
 
   barred : (k : FrameClass) (h : Heard) → isInquiry (barredBy s p k h) ≡ false
-  unfolding requestBarred responseTo sendOf
+  unfolding responseTo sendOf
   barred k heard.Other = filtered k
   barred k (heard.Authentication algorithm transaction status) = filtered k
   barred k (heard.Deauthentication reason) = filtered k
   barred k (heard.Disassociation reason) = filtered k
-  barred k (heard.Request kind current) = pick-both (λ r. isInquiry r ≡ false) (eqb (s .role) ap) refl (filtered k)
+  barred k (heard.Request kind current) = request-barred-by s p (λ r. isInquiry r ≡ false) k kind (λ r. refl) (λ r. filtered k)
   barred k (heard.Response kind status aid comeback) = filtered k
   barred k (heard.QueryRequest identifier) = filtered k
   barred k (heard.QueryResponse identifier) = filtered k
 
   act : (h : Heard) → Other (actOf s p h)
-  unfolding stillOf repliedOf turnOf soleOf authenticationHeard authenticationAtAp authenticationAtStation requestedOf deauthenticationHeard disassociationHeard requestHeard responseHeard acceptedOf rejectedOf challengedOf queryRequestHeard queryResponseHeard authenticationTo laterTo queryTo sendOf
+  unfolding stillOf repliedOf turnOf soleOf requestedOf deauthenticationHeard disassociationHeard responseHeard acceptedOf rejectedOf challengedOf queryRequestHeard queryResponseHeard authenticationTo laterTo queryTo sendOf
   act heard.Other = refl
   act (heard.Authentication algorithm transaction status) =
-      pick-both Other (eqb (s .role) ap)
-      (pick-both Other (eqb transaction 1) (pick-both Other (eqb algorithm 0) refl refl) refl)
-      (pick-both Other (eqb algorithm 0 && (eqb transaction 2 && isSent kind.Authentication (p .exchange))) refl refl)
+      authentication-by s p Other algorithm transaction status (λ r z. refl) (λ z. refl) (λ sent. refl) refl
   act (heard.Deauthentication reason) = pick-both Other (ltb (p .state) 2) refl refl
   act (heard.Disassociation reason) = pick-both Other (ltb (p .state) 3) refl refl
-  act (heard.Request k current) = pick-both Other (eqb (s .role) ap) (pick-both Other (isChallenged s p) refl refl) refl
+  act (heard.Request k current) = request-by s p Other k current (λ r met. refl) (λ r. refl) refl
   act (heard.Response k status aid c) =
       pick-both Other (isSent k (p .exchange))
       (pick-both Other (eqb status 0) (pick-both Other (eqb aid 0 || ltb lastAid aid) refl refl) refl)
@@ -111,10 +110,10 @@ module _ (s : Settings) (p : Record) where
 
   -- No frame makes us send the request of a query,
   pub heard-no-inquiry : (k : FrameClass) (group : Bool) (h : Heard) → isInquiry (hearOf s p k group h .reply) ≡ false
-  unfolding hearOf groupHeard barredOf stillOf repliedOf turnOf
+  unfolding hearOf groupHeard stillOf repliedOf turnOf
   heard-no-inquiry k group h =
-      pick-both Other (not (passesOf k (p .state)))
-      (pick-both (λ r. isInquiry r ≡ false) group refl (barred k h))
+      pick-both Other (not (passesOf (s .role) k (p .state)))
+      (barred-by s p (λ r. isInquiry r ≡ false) k group h refl (λ on. barred k h))
       (pick-both Other group (pick-both Other (isExchange h) refl (pick-both Other (isQuery h) refl (act h))) (act h))
 
   -- and of the primitives 11 alone does.
@@ -151,7 +150,7 @@ abbrev nobody : Others
 nobody = record { associated = 0; busy = false }
 
 turned-away : hearOf site (joined query.None 0) class.Two false (heard.Request kind.Association 0) .reply ≡ laterTo site 4 kind.Association 30 1000
-unfolding runningOf
+unfolding runningOf roleAssociates
 turned-away = forged-reply site guarded (joined query.None 0) refl refl class.Two false kind.Association 0 refl
 
 goes-out : isInquiry (askOf site 1 (joined (query.Running 1000 true) 1) nobody 11 0 .reply) ≡ true

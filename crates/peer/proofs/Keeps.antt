@@ -3,7 +3,7 @@
 -- Assumes nothing.
 use Prim.Native.Nat.{ℕ, _≤_}
 use mathlib.Core.Path.{_≡_, refl, sym}
-use mathlib.Core.Bool.{Bool, true, false, not, _||_}
+use mathlib.Core.Bool.{Bool, true, false, not, _&&_, _||_}
 use native.Mathlib.Omega.{arith}
 use lib.Dec.{eqb, leb, ltb}
 use borrow.Author.Tests.{le-leb, lt-leb, eqb-true, ltb-false, ltb-true}
@@ -18,7 +18,7 @@ use Rattle.peer.specs.Fit.{exchangeFits, holdFits, placeFits, queryFits,
 use Rattle.peer.specs.Moves.{movedOf}
 use Rattle.peer.specs.Query.{queryLeft}
 use Rattle.peer.specs.Record.{associates, changedOf, freshOf, isFree, isJoined, queriedOf, underWay}
-use Rattle.peer.specs.Settings.{ap, settingsFit}
+use Rattle.peer.specs.Settings.{ap, roleAnswers, roleAsks, roleAssociates, settingsFit}
 use Rattle.peer.specs.Turn.{begunOf, endedOf, repliedOf, stillOf, turnOf}
 use Rattle.peer.specs.declared.moves.Move.{Move}
 use Rattle.peer.specs.declared.query.Query.{Query}
@@ -29,24 +29,25 @@ use Rattle.peer.specs.declared.reply.Reply.{Reply}
 use Rattle.peer.specs.declared.settings.Settings.{Settings}
 use Rattle.peer.specs.declared.turn.Told.{Told}
 use Rattle.peer.specs.declared.turn.Turn.{Turn}
-use Rattle.peer.proofs.Fits.{Fits, Keeps, both, fits-of, keeps-all, keeps-changed, keeps-queried, of-fits, or-right, suits-still, wrong}
+use Rattle.peer.proofs.Fits.{Fits, Keeps, both, clash, fits-of, keeps-all, keeps-changed, keeps-queried, of-fits, or-right, suits-still, wrong}
 use Rattle.peer.proofs.Moved.{calm, calm-moved, moved-high, moved-low}
 use Rattle.peer.proofs.QueryFits.{left-short, maximum-short}
+use Rattle.peer.proofs.Roles.{ap-answers, ap-associates, high-two}
 
 -- a turn that keeps what a record must be
 abbrev pub Turns : Settings → Bool → Record → Turn → Type 0
 Turns s busy p turn = Keeps s busy p (turn .peer) (turn .sole)
 
--- every exchange stands in State 2 and above, an authentication in any state
-pub stood : (k : Kind) (state : ℕ) → leb 2 state ≡ true → stands k state ≡ true
+-- every exchange stands in State 2 and above where the role takes part in associations, an authentication in any state at any role
+pub stood : (k : Kind) (role state : ℕ) → (roleAssociates role && leb 2 state) ≡ true → stands k role state ≡ true
 unfolding stands
-stood Authentication state h = refl
-stood Association state h = h
-stood Reassociation state h = h
+stood Authentication role state h = refl
+stood Association role state h = h
+stood Reassociation role state h = h
 
-pub stood-any : (state : ℕ) → stands Authentication state ≡ true
+pub stood-any : (role state : ℕ) → stands Authentication role state ≡ true
 unfolding stands
-stood-any state = refl
+stood-any role state = refl
 
 -- an answer to an authentication raises no state to 3 or 4
 pub answered-calm : (status : ℕ) → calm (answeredMove status) ≡ true
@@ -82,17 +83,17 @@ module _ {s : Settings} {busy : Bool} {p : Record} (f : Fits s p) where
   still v = keeps-all s busy p f
 
   pub ended :
-      (m : Move) (hold v : ℕ) (told : Told) (r : Reply) → holdFits (s .role) hold ≡ true → (eqb (s .role) ap ≡ false → calm m ≡ true)
+      (m : Move) (hold v : ℕ) (told : Told) (r : Reply) → holdFits (s .role) hold ≡ true → (calm m ≡ false → eqb (s .role) ap ≡ true)
       → Turns s busy p (turnOf s p (endedOf s p m hold) v told r)
   unfolding turnOf endedOf
   ended m hold v told r held c =
       keeps-changed s busy p f (movedOf (s .rsna) (p .state) m) None 0 hold false
-      (moved-low (s .rsna) (p .state) m (f .low)) (moved-high (s .rsna) (p .state) m (f .high)) held refl
-      (λ a b j. calm-moved (s .rsna) (p .state) m (c a) j) (λ a b j. wrong j)
+      (moved-low (s .rsna) (p .state) m (f .low)) (moved-high (s .role) (s .rsna) (p .state) m (λ n. ap-associates (s .role) (c n)) (f .high)) held refl
+      (λ a b j. calm-moved (s .rsna) (p .state) m (by-bool (calm m) (λ e. e) (λ n. clash (ap-answers (s .role) (c n)) a)) j) (λ a b j. wrong j)
 
   pub begun :
       (e : Exchange) (left v : ℕ) (told : Told) (r : Reply) → exchangeFits e (s .role) (p .state) left ≡ true
-      → (eqb (s .role) ap ≡ false → busy ≡ true → leb 2 (underWay e) ≡ true → leb 2 (underWay (p .exchange)) ≡ true)
+      → (roleAnswers (s .role) ≡ false → busy ≡ true → leb 2 (underWay e) ≡ true → leb 2 (underWay (p .exchange)) ≡ true)
       → Turns s busy p (turnOf s p (begunOf p e left) v told r)
   unfolding turnOf begunOf
   begun e left v told r suits starts =
@@ -117,10 +118,10 @@ unfolding freshOf holdFits
 fresh-fits s a e v =
     record {
       low = omega arith;
-      high = omega arith;
+      high = let two = high-two (s .role) in omega arith;
       apart = e;
       valid = v;
-      held = or-right (not (eqb (s .role) ap)) true refl;
+      held = or-right (roleAsks (s .role)) true refl;
       suits = refl;
       numbered = omega arith;
       queries = refl;
@@ -149,7 +150,7 @@ parted-keeps s p h = by-bool (ltb (p .state) 3) (λ e. rw e h) high
         let f : Fits s p = fits-of s p (rw i at h) in
         let three : 3 ≤ p .state = ltb-false (p .state) 3 e in
         rw e (or-right (isFree (changedOf p 2 (p .exchange) (p .left) (p .hold))) _ (of-fits s _
-        (keeps-changed s true p f 2 (p .exchange) (p .left) (p .hold) false (omega arith) (omega arith) (f .held)
+        (keeps-changed s true p f 2 (p .exchange) (p .left) (p .hold) false (omega arith) (high-two (s .role)) (f .held)
         (suits-still (p .exchange) (s .role) (p .state) (p .left) 2 (p .left) (f .suits) refl (omega arith) (le-leb 2 (p .state) (omega arith)))
         (λ a b j. wrong j) (λ a b j. j) .fits))))
 

@@ -12,19 +12,17 @@ use Rattle.octets.proofs.Branch.{by-bool, pick-both, pick-by}
 use Rattle.octets.specs.declared.class.FrameClass.{FrameClass}
 use Rattle.octets.specs.declared.element.Comeback.the-variants.{Given}
 use Rattle.octets.specs.declared.heard.Kind.{Kind}
-use Rattle.octets.specs.declared.heard.Kind.the-variants as kind
 use Rattle.octets.specs.declared.heard.Heard.{Heard}
 use Rattle.octets.specs.declared.heard.Heard.the-variants as heard
 use Rattle.peer.specs.Codes.{lastAid}
-use Rattle.peer.specs.Settings.{ap}
 use Rattle.peer.specs.Record.{changedOf, freeOf, isSent, queriedOf, underWay}
 use Rattle.peer.specs.Moves.{movedOf}
 use Rattle.peer.specs.Turn.{admit, discard, confirmOf, toldOf, turnOf, soleOf, endedOf, begunOf, repliedOf, stillOf}
 use Rattle.peer.specs.Filter.{passesOf}
-use Rattle.peer.specs.Authentication.{requestedOf, authenticationAtAp, authenticationAtStation, authenticationHeard, answeredMove}
+use Rattle.peer.specs.Authentication.{requestedOf, answeredMove}
 use Rattle.peer.specs.Farewell.{deauthenticationHeard, disassociationHeard}
-use Rattle.peer.specs.Association.{requestHeard, acceptedOf, rejectedOf, responseHeard}
-use Rattle.peer.specs.Challenge.{challengedOf, inquiredOf, isChallenged, passedOf, queryRequestHeard, queryResponseHeard, queryingOf}
+use Rattle.peer.specs.Association.{acceptedOf, rejectedOf, responseHeard}
+use Rattle.peer.specs.Challenge.{challengedOf, inquiredOf, passedOf, queryRequestHeard, queryResponseHeard, queryingOf}
 use Rattle.peer.specs.Query.{isRunning}
 use Rattle.peer.specs.Hear.{isExchange, isQuery, actOf, groupHeard, hearOf}
 use Rattle.peer.specs.Ask.{startedOf, answerOf, deauthenticateOf, failedOf, associateOf, reassociateOf, disassociateOf, awaitedOf, declinedMove, declinedOf, respondOf, secureOf, reportedMove, reportOf, askOf}
@@ -37,6 +35,7 @@ use Rattle.peer.specs.declared.reply.Reply.the-variants.{Silent}
 use Rattle.peer.specs.declared.turn.Turn.{Turn}
 use Rattle.peer.proofs.Moved.{calm-low}
 use Rattle.peer.proofs.Keeps.{answered-calm, declined-calm}
+use Rattle.peer.proofs.Roles.{authentication-by, request-by}
 
 -- ---- Holds
 
@@ -55,15 +54,13 @@ setsHold (heard.QueryRequest identifier) = false
 setsHold (heard.QueryResponse identifier) = false
 
 act-held : (s : Settings) (p : Record) (h : Heard) → setsHold h ≡ false → Held p (actOf s p h)
-unfolding Held stillOf repliedOf turnOf authenticationHeard authenticationAtAp authenticationAtStation requestedOf begunOf endedOf changedOf deauthenticationHeard requestHeard responseHeard acceptedOf soleOf queryRequestHeard queryResponseHeard challengedOf queryingOf passedOf queriedOf
+unfolding Held stillOf repliedOf turnOf requestedOf begunOf endedOf changedOf deauthenticationHeard responseHeard acceptedOf soleOf queryRequestHeard queryResponseHeard challengedOf queryingOf passedOf queriedOf
 act-held s p heard.Other e = refl
 act-held s p (heard.Authentication a t st) e =
-    pick-both (Held p) (eqb (s .role) ap)
-    (pick-both (Held p) (eqb t 1) (pick-both (Held p) (eqb a 0) refl refl) refl)
-    (pick-both (Held p) (eqb a 0 && (eqb t 2 && isSent kind.Authentication (p .exchange))) refl refl)
+    authentication-by s p (Held p) a t st (λ r z. refl) (λ z. refl) (λ sent. refl) refl
 act-held s p (heard.Deauthentication r) e = pick-both (Held p) (ltb (p .state) 2) refl refl
 act-held s p (heard.Disassociation r) e = let z : _≡_ {A = Bool} true false = e in cc
-act-held s p (heard.Request k c) e = pick-both (Held p) (eqb (s .role) ap) (pick-both (Held p) (isChallenged s p) refl refl) refl
+act-held s p (heard.Request k c) e = request-by s p (Held p) k c (λ r met. refl) (λ r. refl) refl
 act-held s p (heard.QueryRequest i) e = pick-both (Held p) (eqb (p .state) 4) refl refl
 act-held s p (heard.QueryResponse i) e = pick-both (Held p) (eqb (p .state) 4 && (isRunning (p .query) && eqb i (p .identifier))) refl refl
 act-held s p (heard.Response k st aid c) e =
@@ -77,7 +74,7 @@ act-held s p (heard.Response k st aid c) e =
 pub hold-kept-heard : (s : Settings) (p : Record) (k : FrameClass) (g : Bool) (h : Heard) → setsHold h ≡ false → hearOf s p k g h .peer .hold ≡ p .hold
 unfolding Held hearOf groupHeard repliedOf stillOf turnOf
 hold-kept-heard s p k g h e =
-    pick-both (Held p) (not (passesOf k (p .state))) refl
+    pick-both (Held p) (not (passesOf (s .role) k (p .state))) refl
     (pick-both (Held p) g (pick-both (Held p) (isExchange h) refl (pick-both (Held p) (isQuery h) refl (act-held s p h e))) (act-held s p h e))
 
 -- No primitive sets a hold.
@@ -145,15 +142,13 @@ declined-low : (s : Settings) (p : Record) → p .state < 3 → movedOf (s .rsna
 declined-low s p l = calm-low (s .rsna) (p .state) (declinedMove s) (declined-calm s) l
 
 act-low : (s : Settings) (p : Record) (h : Heard) → p .state < 3 → joins p h ≡ false → Low (actOf s p h)
-unfolding Low stillOf repliedOf turnOf authenticationHeard authenticationAtAp authenticationAtStation requestedOf begunOf endedOf changedOf deauthenticationHeard disassociationHeard requestHeard responseHeard acceptedOf rejectedOf soleOf queryRequestHeard queryResponseHeard challengedOf queryingOf passedOf queriedOf
+unfolding Low stillOf repliedOf turnOf requestedOf begunOf endedOf changedOf deauthenticationHeard disassociationHeard responseHeard acceptedOf rejectedOf soleOf queryRequestHeard queryResponseHeard challengedOf queryingOf passedOf queriedOf
 act-low s p heard.Other l e = l
 act-low s p (heard.Authentication a t st) l e =
-    pick-both Low (eqb (s .role) ap)
-    (pick-both Low (eqb t 1) (pick-both Low (eqb a 0) l l) l)
-    (pick-both Low (eqb a 0 && (eqb t 2 && isSent kind.Authentication (p .exchange))) (answered-low s p st l) l)
+    authentication-by s p Low a t st (λ r z. l) (λ z. l) (λ sent. (answered-low s p st l)) l
 act-low s p (heard.Deauthentication r) l e = pick-both Low (ltb (p .state) 2) l (omega arith)
 act-low s p (heard.Disassociation r) l e = pick-both Low (ltb (p .state) 3) l (omega arith)
-act-low s p (heard.Request k c) l e = pick-both Low (eqb (s .role) ap) (pick-both Low (isChallenged s p) l l) l
+act-low s p (heard.Request k c) l e = request-by s p Low k c (λ r met. l) (λ r. l) l
 act-low s p (heard.QueryRequest i) l e = pick-both Low (eqb (p .state) 4) l l
 act-low s p (heard.QueryResponse i) l e = pick-both Low (eqb (p .state) 4 && (isRunning (p .query) && eqb i (p .identifier))) l l
 act-low s p (heard.Response k st aid c) l e =
@@ -169,7 +164,7 @@ act-low s p (heard.Response k st aid c) l e =
 pub rises-heard : (s : Settings) (p : Record) (k : FrameClass) (g : Bool) (h : Heard) → p .state < 3 → joins p h ≡ false → hearOf s p k g h .peer .state < 3
 unfolding Low hearOf groupHeard repliedOf stillOf turnOf
 rises-heard s p k g h l e =
-    pick-both Low (not (passesOf k (p .state))) l
+    pick-both Low (not (passesOf (s .role) k (p .state))) l
     (pick-both Low g (pick-both Low (isExchange h) l (pick-both Low (isQuery h) l (act-low s p h l e))) (act-low s p h l e))
 
 -- And no primitive but a transmit report with code 1.
@@ -206,15 +201,13 @@ Admitted : Turn → Type 0
 Admitted t = t .verdict ≡ admit
 
 act-admitted : (s : Settings) (p : Record) (h : Heard) → Admitted (actOf s p h)
-unfolding Admitted stillOf repliedOf turnOf authenticationHeard authenticationAtAp authenticationAtStation requestedOf deauthenticationHeard disassociationHeard requestHeard responseHeard acceptedOf rejectedOf soleOf queryRequestHeard queryResponseHeard challengedOf
+unfolding Admitted stillOf repliedOf turnOf requestedOf deauthenticationHeard disassociationHeard responseHeard acceptedOf rejectedOf soleOf queryRequestHeard queryResponseHeard challengedOf
 act-admitted s p heard.Other = refl
 act-admitted s p (heard.Authentication a t st) =
-    pick-both Admitted (eqb (s .role) ap)
-    (pick-both Admitted (eqb t 1) (pick-both Admitted (eqb a 0) refl refl) refl)
-    (pick-both Admitted (eqb a 0 && (eqb t 2 && isSent kind.Authentication (p .exchange))) refl refl)
+    authentication-by s p Admitted a t st (λ r z. refl) (λ z. refl) (λ sent. refl) refl
 act-admitted s p (heard.Deauthentication r) = pick-both Admitted (ltb (p .state) 2) refl refl
 act-admitted s p (heard.Disassociation r) = pick-both Admitted (ltb (p .state) 3) refl refl
-act-admitted s p (heard.Request k c) = pick-both Admitted (eqb (s .role) ap) (pick-both Admitted (isChallenged s p) refl refl) refl
+act-admitted s p (heard.Request k c) = request-by s p Admitted k c (λ r met. refl) (λ r. refl) refl
 act-admitted s p (heard.QueryRequest i) = pick-both Admitted (eqb (p .state) 4) refl refl
 act-admitted s p (heard.QueryResponse i) = pick-both Admitted (eqb (p .state) 4 && (isRunning (p .query) && eqb i (p .identifier))) refl refl
 act-admitted s p (heard.Response k st aid c) =
@@ -232,5 +225,5 @@ act-kept s p h v = let a = act-admitted s p h in let z : _≡_ {A = ℕ} 1 2 = c
 pub discard-turn : (s : Settings) (p : Record) (k : FrameClass) (g : Bool) (h : Heard) → hearOf s p k g h .verdict ≡ discard → (hearOf s p k g h .peer ≡ p) × (hearOf s p k g h .sole ≡ false)
 unfolding Kept hearOf groupHeard repliedOf stillOf turnOf
 discard-turn s p k g h =
-    pick-both (Kept p) (not (passesOf k (p .state))) (λ v. (refl, refl))
+    pick-both (Kept p) (not (passesOf (s .role) k (p .state))) (λ v. (refl, refl))
     (pick-both (Kept p) g (pick-both (Kept p) (isExchange h) (λ v. (refl, refl)) (pick-both (Kept p) (isQuery h) (λ v. (refl, refl)) (act-kept s p h))) (act-kept s p h))

@@ -1,7 +1,9 @@
 pub mod QueryFits
 pub mod Fits
+pub mod Roles
 pub mod Moved
 pub mod Keeps
+pub mod Classes
 pub mod HearKeeps
 pub mod AskKeeps
 pub mod TickKeeps
@@ -9,6 +11,7 @@ pub mod Editions
 pub mod EditionsAlike
 pub mod LawsOfUse
 pub mod ErrorsThatLookRight
+pub mod AdHoc
 pub mod Sent
 pub mod AskSaid
 pub mod HearSaid

@@ -6,10 +6,8 @@
 use Prim.Native.Nat.{ℕ}
 use mathlib.Core.Path.{_≡_, refl}
 use mathlib.Core.Bool.{Bool, true, false, not, _&&_}
-use lib.Dec.{eqb, ltb}
 use Rattle.octets.proofs.Branch.{pick-both}
 use Rattle.octets.specs.Address.{validOf}
-use Rattle.octets.specs.Pick.{pick}
 use Rattle.octets.specs.declared.class.FrameClass.the-variants as class
 use Rattle.octets.specs.declared.class.FrameClass.{FrameClass}
 use Rattle.octets.specs.declared.heard.Heard.the-variants as heard
@@ -19,12 +17,12 @@ use Rattle.peer.specs.Association.{requestHeard}
 use Rattle.peer.specs.Authentication.{requestedOf}
 use Rattle.peer.specs.Challenge.{challengedOf, isChallenged, passedOf, queryingOf}
 use Rattle.peer.specs.Filter.{passesOf}
-use Rattle.peer.specs.Fit.{holdFits, queryAllowed, queryStands, recordFits, runningFits}
+use Rattle.peer.specs.Fit.{highestState, holdFits, queryAllowed, queryStands, recordFits, runningFits}
 use Rattle.peer.specs.Hear.{groupHeard, hearOf}
-use Rattle.peer.specs.Moves.{dsLeft, dsNone, dsOf}
+use Rattle.peer.specs.Moves.{dsNone}
 use Rattle.peer.specs.Query.{isRunning, isTimedOut, queryIn, runningOf, steppedOf, unmarkedOf}
 use Rattle.peer.specs.Record.{changedOf, queriedOf}
-use Rattle.peer.specs.Settings.{ap, queryTimesFit, settingsFit, timeFits}
+use Rattle.peer.specs.Settings.{ap, networkFits, queryTimesFit, roleAsks, roleAssociates, settingsFit, timeFits}
 use Rattle.peer.specs.Turn.{begunOf, indicationOf, nothingTold, repliedOf, stillOf, turnOf}
 use Rattle.peer.specs.declared.query.Query.the-variants as query
 use Rattle.peer.specs.declared.query.Query.{Query}
@@ -34,6 +32,7 @@ use Rattle.peer.specs.declared.reply.Reply.{Reply}
 use Rattle.peer.specs.declared.settings.Settings.{Settings}
 use Rattle.peer.specs.declared.turn.Turn.{Turn}
 use Rattle.peer.proofs.Fits.{wrong}
+use Rattle.peer.proofs.Roles.{ds-beside}
 
 -- "At an AP with edition 2 and protection"
 pub record Guarded (s : Settings) : Type 0 where
@@ -60,15 +59,6 @@ pub record Unmoved (p : Record) (t : Turn) : Type 0 where
 pub same : {p : Record} → Stays p p
 same = record { address = refl; state = refl; exchange = refl; left = refl; hold = refl }
 
--- a state that stays is not told
-ds-same : (role state : ℕ) → dsOf role state state ≡ dsNone
-unfolding dsOf
-ds-same role state = pick-both (λ (n : ℕ). n ≡ dsNone) (eqb role ap) (beside (ltb state 3)) refl
-  where
-    beside : (b : Bool) → pick b (pick b dsNone 1) (pick b dsLeft dsNone) ≡ dsNone
-    beside true = refl
-    beside false = refl
-
 -- the query that a request meets or starts is not timed out
 runs : (s : Settings) (q : Query) → isTimedOut (runningOf s q) ≡ false
 unfolding runningOf
@@ -83,14 +73,14 @@ module _ (s : Settings) (g : Guarded s) (p : Record) (four : p .state ≡ 4) (wa
 
   stands-still : (v : ℕ) (r : Reply) → Unmoved p (repliedOf s p v r)
   unfolding repliedOf turnOf
-  stands-still v r = record { told = refl; ds = ds-same (s .role) (p .state); sole = refl; stays = same; unmarked = waits }
+  stands-still v r = record { told = refl; ds = ds-beside (s .role) (p .state) (p .state) refl; sole = refl; stays = same; unmarked = waits }
 
   met : (kind : Kind) → Unmoved p (challengedOf s p kind)
   unfolding challengedOf queryingOf queriedOf turnOf
   met kind =
       record {
         told = refl;
-        ds = ds-same (s .role) (p .state);
+        ds = ds-beside (s .role) (p .state) (p .state) refl;
         sole = refl;
         stays = record { address = refl; state = refl; exchange = refl; left = refl; hold = refl };
         unmarked = runs s (p .query);
@@ -104,14 +94,14 @@ module _ (s : Settings) (g : Guarded s) (p : Record) (four : p .state ≡ 4) (wa
   pub unmoved : (k : FrameClass) (group : Bool) (kind : Kind) (current : ℕ) → Unmoved p (hearOf s p k group (heard.Request kind current))
   unfolding hearOf groupHeard stillOf
   unmoved k group kind current =
-      pick-both (Unmoved p) (not (passesOf k (p .state))) (stands-still _ _)
+      pick-both (Unmoved p) (not (passesOf (s .role) k (p .state))) (stands-still _ _)
       (pick-both (Unmoved p) group (stands-still _ _) (rw (requested kind current) (met kind)))
 
   -- Where a query runs, a request changes nothing at all: it can't put off the query's end.
   pub repeated : isRunning (p .query) ≡ true → (k : FrameClass) (group : Bool) (kind : Kind) (current : ℕ) → hearOf s p k group (heard.Request kind current) .peer ≡ p
   unfolding hearOf groupHeard stillOf repliedOf turnOf challengedOf queryingOf queriedOf runningOf steppedOf
   repeated running k group kind current =
-      pick-both (λ (t : Turn). t .peer ≡ p) (not (passesOf k (p .state))) refl
+      pick-both (λ (t : Turn). t .peer ≡ p) (not (passesOf (s .role) k (p .state))) refl
       (pick-both (λ (t : Turn). t .peer ≡ p) group refl (rw (requested kind current, running)))
 
 -- ---- after a query that timed out
@@ -130,12 +120,12 @@ module _ (s : Settings) (g : Guarded s) (p : Record) (four : p .state ≡ 4) (ou
   cleared query.TimedOut h = refl
 
   -- where its class lets it through and it is sent to our own address
-  pub passes : (k : FrameClass) (kind : Kind) (current : ℕ) → passesOf k 4 ≡ true → hearOf s p k false (heard.Request kind current) ≡ requestedOf s (passedOf p) kind current
+  pub passes : (k : FrameClass) (kind : Kind) (current : ℕ) → passesOf (s .role) k 4 ≡ true → hearOf s p k false (heard.Request kind current) ≡ requestedOf s (passedOf p) kind current
   unfolding hearOf requestHeard
-  passes k kind current through = let here : passesOf k (p .state) ≡ true = rw four through in rw (here, let-through, g .role)
+  passes k kind current through = let here : passesOf (s .role) k (p .state) ≡ true = rw four through in rw (here, let-through, g .role)
 
   pub one-passes :
-      (k : FrameClass) (kind : Kind) (current : ℕ) → passesOf k 4 ≡ true
+      (k : FrameClass) (kind : Kind) (current : ℕ) → passesOf (s .role) k 4 ≡ true
       → (hearOf s p k false (heard.Request kind current) .told .notice ≡ indicationOf kind)
       × (hearOf s p k false (heard.Request kind current) .peer .exchange ≡ Asked kind)
       × (hearOf s p k false (heard.Request kind current) .peer .query ≡ query.None)
@@ -154,6 +144,7 @@ abbrev pub site : Settings
 site =
     record {
       own = 2;
+      network = 0;
       authentication = 100;
       association = 100;
       role = 1;
@@ -175,7 +166,7 @@ all-fit :
     (settingsFit site && (recordFits site (joined query.None 0)
     && (recordFits site (joined (query.Running 1000 true) 65535) && recordFits site (joined query.TimedOut 7))))
     ≡ true
-unfolding settingsFit queryTimesFit timeFits validOf recordFits holdFits queryAllowed runningFits queryStands
+unfolding settingsFit queryTimesFit timeFits networkFits validOf recordFits highestState holdFits roleAsks roleAssociates queryAllowed runningFits queryStands
 all-fit = refl
 
 -- the first request starts a query, at the maximum and with the next identifier; the second leaves it
@@ -183,7 +174,7 @@ first-met : Unmoved (joined query.None 0) (hearOf site (joined query.None 0) cla
 first-met = unmoved site guarded (joined query.None 0) refl refl class.Two false Association 0
 
 first-starts : hearOf site (joined query.None 65535) class.Two false (heard.Request Association 0) .peer ≡ joined (query.Running 1000 true) 0
-unfolding hearOf requestHeard isChallenged challengedOf queryingOf queriedOf runningOf steppedOf turnOf
+unfolding hearOf roleAssociates requestHeard isChallenged challengedOf queryingOf queriedOf runningOf steppedOf turnOf
 first-starts = refl
 
 second-met : hearOf site (joined (query.Running 3 false) 1) class.Two false (heard.Request Reassociation 6) .peer ≡ joined (query.Running 3 false) 1
@@ -191,4 +182,5 @@ second-met = repeated site guarded (joined (query.Running 3 false) 1) refl refl 
 
 -- and one passes after a query that timed out
 let-in : hearOf site (joined query.TimedOut 1) class.Two false (heard.Request Reassociation 6) .peer .exchange ≡ Asked Reassociation
+unfolding roleAssociates
 let-in = one-passes site guarded (joined query.TimedOut 1) refl refl class.Two Reassociation 6 refl .1

@@ -8,7 +8,6 @@ use native.Mathlib.Omega.{arith}
 use lib.Dec.{eqb, leb}
 use borrow.Author.Tests.{eqb-false, eqb-true, le-leb, leb-false, leb-true, ne-eqb}
 use Rattle.octets.proofs.Branch.{and-left, and-right, by-bool, pick-both}
-use Rattle.octets.specs.Address.{validOf}
 use Rattle.peer.specs.Fit.{queryFits, queryStands, runningFits}
 use Rattle.peer.specs.Query.{isRunning, queryIn, queryLeft, queryNumber, queryOf, queryTimed, runningNumber, runningOf, runningTimed, sentQuery, steppedOf, unmarkedOf}
 use Rattle.peer.specs.Settings.{ap, queryTimesFit, settingsFit, timeFits}
@@ -20,14 +19,14 @@ use Rattle.peer.specs.declared.settings.Settings.{Settings}
 pub times-fit : (s : Settings) → settingsFit s ≡ true → queryTimesFit s ≡ true
 unfolding settingsFit
 times-fit s h =
-    and-left (queryTimesFit s) (validOf (s .own))
+    and-left (queryTimesFit s) _
     (and-right (leb (s .edition) 2) _
     (and-right (not (eqb (s .edition) 0)) _
     (and-right (leb (s .protection) 1) _
     (and-right (timeFits (s .association)) _
     (and-right (timeFits (s .authentication)) _
     (and-right (leb (s .rsna) 1) _
-    (and-right (leb (s .role) 2) _
+    (and-right (leb (s .role) 3) _
     (and-right (not (eqb (s .role) 0)) _ h))))))))
 
 pub maximum-some : (s : Settings) → settingsFit s ≡ true → not (eqb (s .maximum) 0) ≡ true

@@ -22,6 +22,7 @@ use Rattle.peer.specs.Filter.{passesOf}
 use Rattle.peer.specs.Hear.{hearOf}
 use Rattle.peer.specs.Query.{isRunning, isTimedOut, queryIn, queryReport, queryTimed, reaches, runningOf, runningReport, runningTimed, sentQuery, steppedOf}
 use Rattle.peer.specs.Record.{changedOf, queriedOf}
+use Rattle.peer.specs.Settings.{roleAssociates}
 use Rattle.peer.specs.Tick.{freedOf, queriedTimed, reportedOf, tickOf, timedOf}
 use Rattle.peer.specs.Turn.{begunOf, repliedOf, stillOf, turnOf}
 use Rattle.peer.specs.declared.query.Query.the-variants as query
@@ -98,7 +99,7 @@ module _ (s : Settings) (g : Guarded s) where
   answered : (p : Record) → Quiet p → (k : FrameClass) → Held p (hearOf s p k false (heard.QueryResponse (p .identifier)) .peer)
   unfolding hearOf stillOf repliedOf turnOf queryResponseHeard queriedOf
   answered p w k =
-      pick-both (λ (t : Turn). Held p (t .peer)) (not (passesOf k (p .state))) (same, w .waits)
+      pick-both (λ (t : Turn). Held p (t .peer)) (not (passesOf (s .role) k (p .state))) (same, w .waits)
       (pick-both (λ (t : Turn). Held p (t .peer)) (eqb (p .state) 4 && (isRunning (p .query) && eqb (p .identifier) (p .identifier)))
       (record { address = refl; state = refl; exchange = refl; left = refl; hold = refl }, refl) (same, w .waits))
 
@@ -134,7 +135,7 @@ module _ (s : Settings) (g : Guarded s) where
 
   -- a request that passes leaves such a record
   let-in-quiet :
-      (p : Record) → p .state ≡ 4 → p .hold ≡ 0 → isTimedOut (p .query) ≡ true → (k : FrameClass) (kind : Kind) (current : ℕ) → passesOf k 4 ≡ true
+      (p : Record) → p .state ≡ 4 → p .hold ≡ 0 → isTimedOut (p .query) ≡ true → (k : FrameClass) (kind : Kind) (current : ℕ) → passesOf (s .role) k 4 ≡ true
       → Quiet (hearOf s p k false (heard.Request kind current) .peer)
   unfolding requestedOf passedOf queriedOf begunOf changedOf turnOf
   let-in-quiet p four free out k kind current through =
@@ -143,7 +144,7 @@ module _ (s : Settings) (g : Guarded s) where
 
   -- "After kind 5 the next request passes and clears the mark": until a query has timed out again, no later one moves what that one left.
   pub exactly-one :
-      (p : Record) → p .state ≡ 4 → p .hold ≡ 0 → isTimedOut (p .query) ≡ true → (k : FrameClass) (kind : Kind) (current : ℕ) → passesOf k 4 ≡ true
+      (p : Record) → p .state ≡ 4 → p .hold ≡ 0 → isTimedOut (p .query) ≡ true → (k : FrameClass) (kind : Kind) (current : ℕ) → passesOf (s .role) k 4 ≡ true
       → (es : List Tried) → InTime s (hearOf s p k false (heard.Request kind current) .peer) es
       → Stays (hearOf s p k false (heard.Request kind current) .peer) (runOf s (hearOf s p k false (heard.Request kind current) .peer) es)
   exactly-one p four free out k kind current through es = answered-stays _ (let-in-quiet p four free out k kind current through) es
@@ -156,7 +157,7 @@ tried =
     ∷ request class.Two false Association 0 ∷ step 1 ∷ send ∷ answer class.Three ∷ []
 
 in-time : InTime site (joined query.None 0) tried
-unfolding InTime hearOf requestHeard isChallenged challengedOf queryingOf queriedOf runningOf steppedOf turnOf queryResponseHeard askOf inquiredOf tickOf timedOf queriedTimed reportedOf freedOf changedOf queryIn runningReport runningTimed reaches
+unfolding InTime hearOf roleAssociates requestHeard isChallenged challengedOf queryingOf queriedOf runningOf steppedOf turnOf queryResponseHeard askOf inquiredOf tickOf timedOf queriedTimed reportedOf freedOf changedOf queryIn runningReport runningTimed reaches
 in-time = (tt, (tt, (refl, (tt, (tt, (tt, (refl, (tt, (refl, (tt, (tt, tt)))))))))))
 
 tried-stays : Stays (joined query.None 0) (runOf site (joined query.None 0) tried)
@@ -164,7 +165,7 @@ tried-stays = answered-stays site guarded (joined query.None 0) (record { four =
 
 -- the second query has the next identifier
 tried-ends : runOf site (joined query.None 0) tried ≡ joined query.None 2
-unfolding runOf hearOf requestHeard isChallenged challengedOf queryingOf queriedOf runningOf steppedOf turnOf queryResponseHeard askOf inquiredOf tickOf timedOf queriedTimed reportedOf freedOf changedOf queryIn runningReport runningTimed reaches
+unfolding runOf hearOf roleAssociates requestHeard isChallenged challengedOf queryingOf queriedOf runningOf steppedOf turnOf queryResponseHeard askOf inquiredOf tickOf timedOf queriedTimed reportedOf freedOf changedOf queryIn runningReport runningTimed reaches
 tried-ends = refl
 
 -- after one that timed out a request passes, and two more do not
@@ -172,12 +173,12 @@ abbrev let-in : Record
 let-in = hearOf site (joined query.TimedOut 1) class.Two false (heard.Request Reassociation 6) .peer
 
 then-none : Stays let-in (runOf site let-in (request class.Two false Association 0 ∷ request class.Two false Reassociation 6 ∷ []))
-unfolding InTime
+unfolding InTime roleAssociates
 then-none =
     exactly-one site guarded (joined query.TimedOut 1) refl refl refl class.Two Reassociation 6 refl
     (request class.Two false Association 0 ∷ request class.Two false Reassociation 6 ∷ []) (tt, (tt, tt))
 
 -- unanswered it times out
 unanswered : runOf site (joined query.None 0) (request class.Two false Association 0 ∷ send ∷ step 1000 ∷ []) ≡ joined query.TimedOut 1
-unfolding runOf hearOf requestHeard isChallenged challengedOf queryingOf queriedOf runningOf steppedOf turnOf askOf inquiredOf tickOf timedOf queriedTimed freedOf changedOf queryIn runningTimed
+unfolding runOf hearOf roleAssociates requestHeard isChallenged challengedOf queryingOf queriedOf runningOf steppedOf turnOf askOf inquiredOf tickOf timedOf queriedTimed freedOf changedOf queryIn runningTimed
 unanswered = refl

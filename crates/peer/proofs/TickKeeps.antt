@@ -11,14 +11,14 @@ use Rattle.peer.specs.Fit.{holdFits, placeFits}
 use Rattle.peer.specs.Moves.{movedOf}
 use Rattle.peer.specs.Query.{queryNumber, queryTimed}
 use Rattle.peer.specs.Record.{associates, changedOf, freeOf, isFree, isJoined, queriedOf, underWay}
-use Rattle.peer.specs.Settings.{ap}
+use Rattle.peer.specs.Settings.{roleAsks}
 use Rattle.peer.specs.Tick.{expiredMove, freedOf, queriedTimed, tickOf, timedOf}
 use Rattle.peer.specs.Turn.{endedOf}
 use Rattle.peer.specs.declared.moves.Move.{Move}
 use Rattle.peer.specs.declared.record.Exchange.the-variants.{None}
 use Rattle.peer.specs.declared.record.Record.{Record}
 use Rattle.peer.specs.declared.settings.Settings.{Settings}
-use Rattle.peer.proofs.Fits.{Fits, Keeps, Placed, both, fits-of, keeps-changed, keeps-on, keeps-queried, placed, suits-still, wrong}
+use Rattle.peer.proofs.Fits.{Fits, Keeps, Placed, both, clash, fits-of, keeps-changed, keeps-on, keeps-queried, placed, suits-still, wrong}
 use Rattle.peer.proofs.Moved.{calm, calm-moved, moved-high, moved-low}
 use Rattle.peer.proofs.QueryFits.{none-stays, timed-fits}
 
@@ -32,9 +32,9 @@ unfolding holdFits
 hold-less role hold d h =
     let t = both (leb hold 4294967295) _ h in
     let top : hold ≤ 4294967295 = leb-true hold 4294967295 (t .0) in
-    rw (le-leb (hold - d) 4294967295 (omega arith)) (by-bool (eqb role ap)
-    (λ a. rw (a, eq-eqb (hold - d) 0 (let z : hold ≡ 0 = eqb-true hold 0 (rw a at (t .1)) in omega arith)))
-    (λ a. rw a))
+    rw (le-leb (hold - d) 4294967295 (omega arith)) (by-bool (roleAsks role)
+    (λ a. rw a)
+    (λ a. rw (a, eq-eqb (hold - d) 0 (let z : hold ≡ 0 = eqb-true hold 0 (rw a at (t .1)) in omega arith))))
 
 expired-calm : (kind : ℕ) → calm (expiredMove kind) ≡ true
 unfolding expiredMove
@@ -54,11 +54,14 @@ timed-keeps s p d f = by-bool (eqb (p .left) 0)
     (suits-still (p .exchange) (s .role) (p .state) (p .left) (p .state) (p .left - d) (f .suits) (l ∙ sym on) (omega arith) refl)
     (λ a b j. j) (λ a b j. j)))
     (λ r. rw (l, r) (keeps-changed s true p f (movedOf (s .rsna) (p .state) m) None 0 (p .hold - d) false
-    (moved-low (s .rsna) (p .state) m (f .low)) (moved-high (s .rsna) (p .state) m (f .high)) held refl
-    (λ a b j. calm-moved (s .rsna) (p .state) m (expired-calm (underWay (p .exchange))) j) (λ a b j. wrong j))))
+    (moved-low (s .rsna) (p .state) m (f .low)) (moved-high (s .role) (s .rsna) (p .state) m (λ n. clash quiet n) (f .high)) held refl
+    (λ a b j. calm-moved (s .rsna) (p .state) m quiet j) (λ a b j. wrong j))))
   where
     m : Move
     m = expiredMove (underWay (p .exchange))
+
+    quiet : calm m ≡ true
+    quiet = expired-calm (underWay (p .exchange))
 
     held : holdFits (s .role) (p .hold - d) ≡ true
     held = hold-less (s .role) (p .hold) d (f .held)

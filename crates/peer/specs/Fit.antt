@@ -7,7 +7,7 @@ use Rattle.octets.specs.Address.{validOf}
 use Rattle.octets.specs.Pick.{pick}
 use Rattle.octets.specs.declared.heard.Kind.{Kind}
 use Rattle.peer.specs.Record.{isAssociating, isFree}
-use Rattle.peer.specs.Settings.{ap, station, timeFits}
+use Rattle.peer.specs.Settings.{ap, roleAnswers, roleAsks, roleAssociates, timeFits}
 use Rattle.peer.specs.declared.query.Query.the-variants as query
 use Rattle.peer.specs.declared.query.Query.{Query}
 use Rattle.peer.specs.declared.record.Exchange.the-variants.{Asked, Awaiting, None, Sent}
@@ -15,21 +15,21 @@ use Rattle.peer.specs.declared.record.Exchange.{Exchange}
 use Rattle.peer.specs.declared.record.Record.{Record}
 use Rattle.peer.specs.declared.settings.Settings.{Settings}
 
--- "every (re)association exchange stands in State 2 or above"
-unfoldable pub stands : Kind → ℕ → Bool
-stands k state = pick (isAssociating k) (leb 2 state) true
+-- "every (re)association exchange stands in State 2 or above"; "exchanges fit the role": where nobody associates there is none
+unfoldable pub stands : Kind → ℕ → ℕ → Bool
+stands k role state = pick (isAssociating k) (roleAssociates role && leb 2 state) true
 
--- "exchanges fit the role": asked, AP (any of the three); "every other time left is 0"
+-- "exchanges fit the role": asked, AP (any of the three); "every other time left is 0". 02, K10: "an asked exchange has time 0"
 unfoldable pub askedFits : Kind → ℕ → ℕ → ℕ → Bool
-askedFits k role state left = eqb role ap && (eqb left 0 && stands k state)
+askedFits k role state left = roleAnswers role && (eqb left 0 && stands k role state)
 
 -- "response not yet acknowledged, AP (the last two)"
 unfoldable pub awaitingFits : Kind → ℕ → ℕ → ℕ → Bool
 awaitingFits k role state left = isAssociating k && askedFits k role state left
 
--- "sent, station (any of the three)"; "a station's exchange has 1 to 65,535 TU left"
+-- "sent, station (any of the three)"; "a station's exchange has 1 to 65,535 TU left". 02, K10: "Clock and timeouts are a station's"
 unfoldable pub sentFits : Kind → ℕ → ℕ → ℕ → Bool
-sentFits k role state left = eqb role station && (timeFits left && stands k state)
+sentFits k role state left = roleAsks role && (timeFits left && stands k role state)
 
 abbrev pub exchangeFits : Exchange → ℕ → ℕ → ℕ → Bool
 exchangeFits None role state left = eqb left 0
@@ -39,7 +39,7 @@ exchangeFits (Sent k) role state left = sentFits k role state left
 
 -- "a hold time left (0 to 4,294,967,295 TU)"; "an AP's holds are 0"
 unfoldable pub holdFits : ℕ → ℕ → Bool
-holdFits role hold = leb hold 4294967295 && (not (eqb role ap) || eqb hold 0)
+holdFits role hold = leb hold 4294967295 && (roleAsks role || eqb hold 0)
 
 -- 02, K5: "Well formed allows a query or mark only in State 4 at an AP, remaining 1 to the maximum."
 unfoldable pub queryStands : Settings → ℕ → Bool
@@ -57,10 +57,14 @@ queryFits s state query.TimedOut = queryStands s state
 unfoldable pub queryAllowed : Settings → Record → Bool
 queryAllowed s p = leb (p .identifier) 65535 && queryFits s (p .state) (p .query)
 
+-- "each in State 1 to 4"; 02, K10: "States over 2 are not well formed"
+unfoldable pub highestState : ℕ → ℕ
+highestState role = pick (roleAssociates role) 4 2
+
 -- "each in State 1 to 4"; "outside free places no address is invalid, own"; the hold, the exchange and the query as above
 unfoldable pub recordFits : Settings → Record → Bool
 recordFits s p =
-    leb 1 (p .state) && (leb (p .state) 4
+    leb 1 (p .state) && (leb (p .state) (highestState (s .role))
     && (not (eqb (p .address) (s .own))
     && (validOf (p .address)
     && (holdFits (s .role) (p .hold)

@@ -56,6 +56,6 @@ groupHeard s p h = pick (isExchange h) (stillOf s p discard) (pick (isQuery h) (
 unfoldable pub hearOf : Settings → Record → FrameClass → Bool → Heard → Turn
 hearOf s p k group h =
     -- 6.
-    pick (not (passesOf k (p .state))) (repliedOf s p discard (barredOf s p k group h))
+    pick (not (passesOf (s .role) k (p .state))) (repliedOf s p discard (barredOf s p k group h))
     -- 7. and 8.
     (pick group (groupHeard s p h) (actOf s p h))

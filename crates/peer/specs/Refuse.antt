@@ -7,7 +7,7 @@ use Rattle.octets.specs.Pick.{pick}
 use Rattle.octets.specs.declared.heard.Kind.the-variants.{Association, Authentication, Reassociation}
 use Rattle.peer.specs.Query.{isDue}
 use Rattle.peer.specs.Record.{awaitingOf, isAsked, underWay}
-use Rattle.peer.specs.Settings.{ap, station}
+use Rattle.peer.specs.Settings.{ap, roleAnswers, roleAsks, roleAssociates, station}
 use Rattle.peer.specs.declared.record.Record.{Record}
 use Rattle.peer.specs.declared.refuse.Others.{Others}
 
@@ -24,12 +24,16 @@ codeAllowed q c =
     (pick (eqb q 10) (leb c 1)
     (eqb q 2 || one q 7 8)))
 
--- Refusal 5, "primitive not for this role": 1, 4, 5 station; 2, 7, 8, 10, 11 AP; the others are for both.
+-- Refusal 5, "primitive not for this role": 1, 4, 5 station; 2, 7, 8, 10, 11 AP; the others are for both. 02, K10: "Authentication may be asked
+-- by either end" (1, 2); "5 for primitives 4 to 11" in role 3.
 unfoldable pub roleAllowed : ℕ → ℕ → Bool
 roleAllowed q role =
-    pick (eqb q 1 || one q 4 5) (eqb role station)
-    (pick (one q 2 10 || (one q 7 8 || eqb q 11)) (eqb role ap)
-    true)
+    pick (eqb q 1) (roleAsks role)
+    (pick (eqb q 2) (roleAnswers role)
+    (pick (one q 4 5) (eqb role station)
+    (pick (one q 6 9) (roleAssociates role)
+    (pick (one q 7 8 || one q 10 11) (eqb role ap)
+    true))))
 
 -- "9 if this record has an exchange or any has a (re)association"
 unfoldable pub joinConflict : Record → Others → Bool

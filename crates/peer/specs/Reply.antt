@@ -8,19 +8,19 @@ use Rattle.octets.specs.declared.frame.Body.the-variants as body
 use Rattle.octets.specs.declared.frame.Body.{Body}
 use Rattle.octets.specs.declared.heard.Kind.the-variants.{Association, Authentication, Reassociation}
 use Rattle.octets.specs.declared.heard.Kind.{Kind}
-use Rattle.peer.specs.Settings.{ap}
+use Rattle.peer.specs.Settings.{adHoc, ap}
 use Rattle.peer.specs.declared.reply.Reply.the-variants.{Send}
 use Rattle.peer.specs.declared.reply.Reply.{Reply}
 use Rattle.peer.specs.declared.settings.Settings.{Settings}
 
--- "Address 3 the AP's (own at an AP, the peer's at a station)"
-unfoldable pub apAddress : Settings → ℕ → ℕ
-apAddress s peer = pick (eqb (s .role) ap) (s .own) peer
+-- "Address 3 the AP's (own at an AP, the peer's at a station)"; 02, K10: "the network's address, written as Address 3 in role 3"
+unfoldable pub networkAddress : Settings → ℕ → ℕ
+networkAddress s peer = pick (eqb (s .role) ap) (s .own) (pick (eqb (s .role) adHoc) (s .network) peer)
 
 -- "Address 1 peer, Address 2 own"
 unfoldable pub sendOf : Settings → ℕ → ℕ → Body → Reply
 sendOf s peer subtype b =
-    Send (record { subtype = subtype; address1 = peer; address2 = s .own; address3 = apAddress s peer; body = b })
+    Send (record { subtype = subtype; address1 = peer; address2 = s .own; address3 = networkAddress s peer; body = b })
 
 -- The standard's subtypes: authentication 11, deauthentication 12, disassociation 10.
 unfoldable pub authenticationTo : Settings → ℕ → ℕ → ℕ → ℕ → Reply

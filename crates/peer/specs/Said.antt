@@ -12,7 +12,7 @@ use Rattle.octets.specs.declared.heard.Heard.the-variants as heard
 use Rattle.octets.specs.declared.heard.Heard.{Heard}
 use Rattle.octets.specs.declared.heard.Kind.the-variants.{Association, Reassociation}
 use Rattle.peer.specs.Query.{queryLeft, runningOf}
-use Rattle.peer.specs.Settings.{ap, station}
+use Rattle.peer.specs.Settings.{adHoc, ap, station}
 use Rattle.peer.specs.declared.query.Query.{Query}
 use Rattle.peer.specs.declared.reply.Reply.the-variants.{Send, Silent}
 use Rattle.peer.specs.declared.reply.Reply.{Reply}
@@ -70,11 +70,15 @@ repliedSays s state query class (heard.Deauthentication reason) = barredSays cla
 repliedSays s state query class (heard.Disassociation reason) = barredSays class state
 repliedSays s state query class (heard.Response kind status aid comeback) = barredSays class state
 
--- "Address 1 peer, Address 2 own, Address 3 the AP's (own at an AP, the peer's at a station)"; "Capability is 0001, or 0011 hexadecimal where
--- RSNA is required." The octets xs read so, and are heard as w.
+-- "Address 3 the AP's (own at an AP, the peer's at a station)"; 02, K10: "the network's address, written as Address 3 in role 3"
+abbrev pub thirdAddress : Settings → ℕ → ℕ
+thirdAddress s peer = pick (eqb (s .role) station) peer (pick (eqb (s .role) adHoc) (s .network) (s .own))
+
+-- "Address 1 peer, Address 2 own", Address 3 as above; "Capability is 0001, or 0011 hexadecimal where RSNA is required." The octets xs read so,
+-- and are heard as w.
 abbrev pub ReadsTo : Settings → ℕ → Heard → List ℕ → Type 0
 ReadsTo s peer w xs =
-    Reads peer (s .own) (pick (eqb (s .role) station) peer (s .own)) (pick (eqb (s .rsna) 0) 0x0001 0x0011) w xs
+    Reads peer (s .own) (thirdAddress s peer) (pick (eqb (s .rsna) 0) 0x0001 0x0011) w xs
 
 -- A reply is nothing, or a frame each field of which fits its octets, and whose octets read so.
 abbrev pub Speaks : Settings → ℕ → Heard → Reply → Type 0

@@ -1,4 +1,4 @@
-// Authentication, heard at an AP and at a station.
+// Authentication, heard by a role that answers it and by one that asked for it.
 use crate::codes::STATUS_ALGORITHM;
 use crate::codes::STATUS_FULL;
 use crate::moves::Move;
@@ -9,6 +9,7 @@ use crate::record::sent;
 use crate::reply::Reply;
 use crate::reply::authentication;
 use crate::settings::Settings;
+use crate::settings::answers;
 use crate::turn::Told;
 use crate::turn::Turn;
 use crate::turn::begun;
@@ -18,7 +19,7 @@ use crate::turn::replied;
 use crate::turn::still;
 use octets::heard::Kind;
 ghost use mathlib.Core.Path.{_≡_};
-ghost use Rattle.peer.specs.Authentication.{answeredMove, authenticationAtAp, authenticationAtStation, authenticationHeard, fullOf, requestedOf};
+ghost use Rattle.peer.specs.Authentication.{answeredMove, authenticationAnswered, authenticationAsked, authenticationHeard, fullOf, requestedOf};
 
 // A request of a kind is asked, in place of any exchange.
 pub fn requested(s: Settings, p: Record, kind: Kind, current: u64) -> Turn
@@ -51,12 +52,9 @@ pub fn answered_move(status: u16) -> Move
     }
 }
 
-fn authentication_at_ap(s: Settings, p: Record, algorithm: u16, transaction: u16) -> Turn
-    ensures { λ r. ⌜ r ≡ authenticationAtAp s p algorithm transaction ⌝ }
+fn authentication_asked(s: Settings, p: Record, algorithm: u16) -> Turn
+    ensures { λ r. ⌜ r ≡ authenticationAsked s p algorithm ⌝ }
 {
-    if transaction != 1 {
-        return still(s, p, Turn::ADMIT);
-    }
     if algorithm != 0 {
         return replied(
             s,
@@ -80,14 +78,14 @@ pub fn full(s: Settings, p: Record) -> Turn
     )
 }
 
-fn authentication_at_station(
+fn authentication_answered(
     s: Settings,
     p: Record,
     algorithm: u16,
     transaction: u16,
     status: u16,
 ) -> Turn
-    ensures { λ r. ⌜ r ≡ authenticationAtStation s p algorithm transaction status ⌝ }
+    ensures { λ r. ⌜ r ≡ authenticationAnswered s p algorithm transaction status ⌝ }
 {
     if algorithm != 0 {
         return still(s, p, Turn::ADMIT);
@@ -120,9 +118,12 @@ pub fn authentication_heard(
 ) -> Turn
     ensures { λ r. ⌜ r ≡ authenticationHeard s p algorithm transaction status ⌝ }
 {
-    if s.role == Settings::AP {
-        authentication_at_ap(s, p, algorithm, transaction)
+    if transaction != 1 {
+        return authentication_answered(s, p, algorithm, transaction, status);
+    }
+    if answers(s.role) {
+        authentication_asked(s, p, algorithm)
     } else {
-        authentication_at_station(s, p, algorithm, transaction, status)
+        authentication_answered(s, p, algorithm, transaction, status)
     }
 }

@@ -1,4 +1,4 @@
-// Deauthentication and disassociation, heard at either role.
+// Deauthentication and disassociation, heard at any role.
 use crate::moves::Move;
 use crate::record::Record;
 use crate::reply::Reply;

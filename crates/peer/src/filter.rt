@@ -8,6 +8,7 @@ use crate::reply::deauthentication;
 use crate::reply::disassociation;
 use crate::reply::response;
 use crate::settings::Settings;
+use crate::settings::associates;
 use octets::class::FrameClass;
 use octets::heard::Heard;
 use octets::heard::Kind;
@@ -15,14 +16,26 @@ ghost use mathlib.Core.Path.{_≡_};
 ghost use Rattle.peer.specs.Filter.{barredOf, filteredOf, passesOf, requestBarred};
 
 // Whether a frame of a class passes in a state.
-pub fn passes(class: FrameClass, state: u8) -> bool
-    ensures { λ r. ⌜ r ≡ passesOf class state ⌝ }
+pub fn passes(role: u8, class: FrameClass, state: u8) -> bool
+    ensures { λ r. ⌜ r ≡ passesOf role class state ⌝ }
 {
     match class {
         FrameClass::None => false,
         FrameClass::One => true,
-        FrameClass::Two => Record::STATE_2 <= state,
-        FrameClass::Three => Record::STATE_3 <= state,
+        FrameClass::Two => {
+            if associates(role) {
+                Record::STATE_2 <= state
+            } else {
+                false
+            }
+        }
+        FrameClass::Three => {
+            if associates(role) {
+                Record::STATE_3 <= state
+            } else {
+                false
+            }
+        }
     }
 }
 
@@ -55,11 +68,14 @@ fn request_barred(s: Settings, p: Record, class: FrameClass, kind: Kind) -> Repl
     }
 }
 
-// What a frame that is kept out is answered; to a group address nothing.
+// What a frame that is kept out is answered; to a group address, and where nobody associates, nothing.
 pub fn barred(s: Settings, p: Record, class: FrameClass, group: bool, h: Heard) -> Reply
     ensures { λ r. ⌜ r ≡ barredOf s p class group h ⌝ }
 {
     if group {
+        return Reply::Silent;
+    }
+    if associates(s.role) {} else {
         return Reply::Silent;
     }
     match h {

@@ -4,32 +4,37 @@ use crate::record::Exchange;
 use crate::record::Record;
 use crate::record::associating;
 use crate::settings::Settings;
+use crate::settings::answers;
+use crate::settings::asks;
+use crate::settings::associates;
 use octets::address::valid;
 use octets::heard::Kind;
 ghost use mathlib.Core.Path.{_≡_};
-ghost use Rattle.peer.specs.Fit.{askedFits, awaitingFits, exchangeFits, holdFits, placeFits, queryAllowed, queryFits, queryStands, recordFits, runningFits, sentFits, stands};
+ghost use Rattle.peer.specs.Fit.{askedFits, awaitingFits, exchangeFits, highestState, holdFits, placeFits, queryAllowed, queryFits, queryStands, recordFits, runningFits, sentFits, stands};
 
-// Whether a kind of exchange may stand in a state.
-fn standing(k: Kind, state: u8) -> bool
-    ensures { λ r. ⌜ r ≡ stands k state ⌝ }
+// Whether a kind of exchange may stand at a role in a state.
+fn standing(k: Kind, role: u8, state: u8) -> bool
+    ensures { λ r. ⌜ r ≡ stands k role state ⌝ }
 {
-    if associating(k) {
-        Record::STATE_2 <= state
-    } else {
-        true
+    if associating(k) {} else {
+        return true;
     }
+    if associates(role) {} else {
+        return false;
+    }
+    Record::STATE_2 <= state
 }
 
 fn asked_fits(k: Kind, role: u8, state: u8, left: u16) -> bool
     ensures { λ r. ⌜ r ≡ askedFits k role state left ⌝ }
 {
-    if role != Settings::AP {
+    if answers(role) {} else {
         return false;
     }
     if left != 0 {
         return false;
     }
-    standing(k, state)
+    standing(k, role, state)
 }
 
 fn awaiting_fits(k: Kind, role: u8, state: u8, left: u16) -> bool
@@ -45,20 +50,20 @@ fn awaiting_fits(k: Kind, role: u8, state: u8, left: u16) -> bool
 fn sent_fits(k: Kind, role: u8, state: u8, left: u16) -> bool
     ensures { λ r. ⌜ r ≡ sentFits k role state left ⌝ }
 {
-    if role != Settings::STATION {
+    if asks(role) {} else {
         return false;
     }
     if left == 0 {
         return false;
     }
-    standing(k, state)
+    standing(k, role, state)
 }
 
 // Whether a hold fits the role.
-fn hold_fits(role: u8, hold: u32) -> bool
+pub fn hold_fits(role: u8, hold: u32) -> bool
     ensures { λ r. ⌜ r ≡ holdFits role hold ⌝ }
 {
-    if role != Settings::AP {
+    if asks(role) {
         return true;
     }
     hold == 0
@@ -117,6 +122,17 @@ fn query_allowed(s: Settings, p: Record) -> bool
     query_fits(s, p.state, q)
 }
 
+// The highest state there is at a role.
+pub fn highest(role: u8) -> u8
+    ensures { λ r. ⌜ r ≡ highestState role ⌝ }
+{
+    if associates(role) {
+        Record::STATE_4
+    } else {
+        Record::STATE_2
+    }
+}
+
 // Whether a record that is no free place is well formed by itself.
 fn record_fits(s: Settings, p: Record) -> bool
     ensures { λ r. ⌜ r ≡ recordFits s p ⌝ }
@@ -127,7 +143,7 @@ fn record_fits(s: Settings, p: Record) -> bool
     if state < Record::STATE_1 {
         return false;
     }
-    if Record::STATE_4 < state {
+    if highest(s.role) < state {
         return false;
     }
     if a == s.own {

@@ -109,7 +109,7 @@ fn group_heard(s: Settings, p: Record, h: Heard) -> Turn
 pub fn hear(s: Settings, p: Record, class: FrameClass, group: bool, h: Heard) -> Turn
     ensures { λ r. ⌜ r ≡ hearOf s p class group h ⌝ }
 {
-    if passes(class, p.state) {} else {
+    if passes(s.role, class, p.state) {} else {
         return replied(s, p, Turn::DISCARD, barred(s, p, class, group, h));
     }
     // Most frames end here, and the compiler need not call `act` for them.

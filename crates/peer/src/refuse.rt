@@ -8,6 +8,9 @@ use crate::record::asked;
 use crate::record::awaiting;
 use crate::record::under_way;
 use crate::settings::Settings;
+use crate::settings::answers;
+use crate::settings::asks;
+use crate::settings::associates;
 ghost use mathlib.Core.Path.{_≡_};
 ghost use Rattle.peer.specs.Refuse.{codeAllowed, conflictOf, heldOf, joinConflict, joinedElsewhere, mismatchOf, roleAllowed};
 
@@ -42,12 +45,14 @@ pub fn role_allowed(primitive: u8, role: u8) -> bool
     ensures { λ r. ⌜ r ≡ roleAllowed primitive role ⌝ }
 {
     match primitive {
-        1 => role == Settings::STATION,
-        2 => role == Settings::AP,
+        1 => asks(role),
+        2 => answers(role),
         4 => role == Settings::STATION,
         5 => role == Settings::STATION,
+        6 => associates(role),
         7 => role == Settings::AP,
         8 => role == Settings::AP,
+        9 => associates(role),
         10 => role == Settings::AP,
         11 => role == Settings::AP,
         _ => true,

@@ -5,25 +5,32 @@ use octets::frame::Frame;
 use octets::frame::capability;
 use octets::heard::Kind;
 ghost use mathlib.Core.Path.{_≡_};
-ghost use Rattle.peer.specs.Reply.{apAddress, authenticationTo, deauthenticationTo, disassociationTo, laterTo, queryTo, requestBody, requestSubtype, requestTo, responseSubtype, responseTo, sendOf};
+ghost use Rattle.peer.specs.Reply.{authenticationTo, deauthenticationTo, disassociationTo, laterTo, networkAddress, queryTo, requestBody, requestSubtype, requestTo, responseSubtype, responseTo, sendOf};
 
 pub enum Reply {
     Silent,
     Send(Frame),
 }
 
-// Address 3: the AP's.
-fn ap_address(s: Settings, peer: u64) -> u64
-    ensures { λ r. ⌜ r ≡ apAddress s peer ⌝ }
+// Address 3: the AP's, or the ad hoc network's.
+fn network_address(s: Settings, peer: u64) -> u64
+    ensures { λ r. ⌜ r ≡ networkAddress s peer ⌝ }
 {
-    if s.role == Settings::AP { s.own } else { peer }
+    if s.role == Settings::AP {
+        return s.own;
+    }
+    if s.role == Settings::AD_HOC {
+        s.network
+    } else {
+        peer
+    }
 }
 
 // A frame to a peer.
 fn send(s: Settings, peer: u64, subtype: u8, body: Body) -> Reply
     ensures { λ r. ⌜ r ≡ sendOf s peer subtype body ⌝ }
 {
-    let address3 = ap_address(s, peer);
+    let address3 = network_address(s, peer);
     Reply::Send(Frame {
         subtype,
         address1: peer,

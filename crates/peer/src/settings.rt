@@ -1,11 +1,13 @@
-// The settings of one access point or station. Any numbers may come in: `fit` says whether they are settings.
+// The settings of one access point, station or ad hoc peer, and what its role may do. Any numbers may come in: `fit` says whether they are settings.
 use octets::address::valid;
 ghost use mathlib.Core.Path.{_≡_};
-ghost use Rattle.peer.specs.Settings.{queryTimesFit, settingsFit};
+ghost use Rattle.peer.specs.Settings.{networkFits, queryTimesFit, roleAnswers, roleAsks, roleAssociates, settingsFit};
 
 #[repr(C)]
 pub struct Settings {
     pub own: u64,
+    // The address of an ad hoc network; not looked at in the other roles.
+    pub network: u64,
     // Timeouts in TU.
     pub authentication: u16,
     pub association: u16,
@@ -21,10 +23,33 @@ pub struct Settings {
     pub maximum: u16,
 }
 
+// Whether a role sends requests.
+pub fn asks(role: u8) -> bool
+    ensures { λ r. ⌜ r ≡ roleAsks role ⌝ }
+{
+    role != Settings::AP
+}
+
+// Whether a role answers requests for authentication.
+pub fn answers(role: u8) -> bool
+    ensures { λ r. ⌜ r ≡ roleAnswers role ⌝ }
+{
+    role != Settings::STATION
+}
+
+// Whether a role takes part in associations.
+pub fn associates(role: u8) -> bool
+    ensures { λ r. ⌜ r ≡ roleAssociates role ⌝ }
+{
+    role != Settings::AD_HOC
+}
+
 impl Settings {
     pub const AP: u8 = 1;
 
     pub const STATION: u8 = 2;
+
+    pub const AD_HOC: u8 = 3;
 
     // Whether the times of a query are in range.
     fn query_times_fit(self) -> bool
@@ -39,6 +64,17 @@ impl Settings {
         true
     }
 
+    // Whether an ad hoc network has a valid address.
+    fn network_fits(self) -> bool
+        ensures { λ r. ⌜ r ≡ networkFits self ⌝ }
+    {
+        if associates(self.role) {
+            return true;
+        }
+        let network = self.network;
+        valid(network)
+    }
+
     // Whether the settings are in range and the own address is valid.
     pub fn fit(self) -> bool
         ensures { λ r. ⌜ r ≡ settingsFit self ⌝ }
@@ -46,7 +82,7 @@ impl Settings {
         if self.role == 0 {
             return false;
         }
-        if 2 < self.role {
+        if 3 < self.role {
             return false;
         }
         if 1 < self.rsna {
@@ -68,6 +104,9 @@ impl Settings {
             return false;
         }
         if self.query_times_fit() {} else {
+            return false;
+        }
+        if self.network_fits() {} else {
             return false;
         }
         let own = self.own;

@@ -8,3 +8,4 @@ pub mod HostLaws
 pub mod BoundaryLaws
 pub mod CallsInRow
 pub mod OrderOctets
+pub mod OrderOctetsExamples

@@ -16,13 +16,14 @@ use Rattle.table.specs.declared.rules.event.Event.{Event}
 
 -- Out of range, so refusal 2: "settings or table not well formed".
 abbrev pub noSettings : Settings
-noSettings = record { own = 0; authentication = 0; association = 0; role = 0; rsna = 0; edition = 0; protection = 0; retry = 0; maximum = 0 }
+noSettings = record { own = 0; network = 0; authentication = 0; association = 0; role = 0; rsna = 0; edition = 0; protection = 0; retry = 0; maximum = 0 }
 
 -- 01, The bench program: "role, own address, RSNA 0/1, two timeouts, 12 octets." 02, K2: "a bench settings record of 14 octets carries them
 -- last, and one of 12 means edition 1, no protection". Octets that are not there are 0, so of these only the edition has to be said.
 -- 02, K5: "a bench settings record of 18 octets carries them last, shorter ones mean 201 and 1,000": a query's retry time and its maximum.
+-- 02, K10: "a bench settings record of 24 octets carries it last": the network's address.
 unfoldable pub settingsLength : ℕ → Bool
-settingsLength n = eqb n 12 || (eqb n 14 || eqb n 18)
+settingsLength n = eqb n 12 || (eqb n 14 || (eqb n 18 || eqb n 24))
 
 unfoldable pub editionIn : List ℕ → ℕ
 editionIn xs = pick (ltb (length xs) 14) 1 (field 1 12 xs)
@@ -39,6 +40,7 @@ settingsIn xs =
     pick (settingsLength (length xs))
     (record {
       own = field 6 1 xs;
+      network = field 6 18 xs;
       authentication = field 2 8 xs;
       association = field 2 10 xs;
       role = field 1 0 xs;

@@ -11,7 +11,7 @@ use Rattle.octets.specs.Field.{allOctets, field}
 use Rattle.octets.specs.Pick.{pick}
 use Rattle.peer.specs.Record.{freeOf}
 use Rattle.peer.specs.Said.{ReadsTo}
-use Rattle.peer.specs.Settings.{ap}
+use Rattle.peer.specs.Settings.{roleAnswers}
 use Rattle.peer.specs.declared.record.Record.{Record}
 use Rattle.table.specs.Boundary.{Crossed, answerIn, crossedOf, settingsIn}
 use Rattle.table.specs.Fit.{wellFormed}
@@ -105,7 +105,7 @@ calledFor ss room xs e = called ss xs (callOf room e)
 abbrev pub OrderFreeOctets : List ℕ → Type 0
 OrderFreeOctets ss =
     (xs : List ℕ) (room : Handed → List ℕ) (l₁ l₂ : List Handed) (to from : ℕ → ℕ)
-    → settingsIn ss .role ≡ ap → allOctets xs ≡ true → isTable xs ≡ true → wellFormed (settingsIn ss) (recordsOf xs) ≡ true
+    → roleAnswers (settingsIn ss .role) ≡ true → allOctets xs ≡ true → isTable xs ≡ true → wellFormed (settingsIn ss) (recordsOf xs) ≡ true
     → ((e : Handed) → 24 ≤ length (room e))
     → Named freeOf addressOf (peerNamed (settingsIn ss)) (recordsOf xs) l₁
     → Moved (peerNamed (settingsIn ss)) l₁ l₂ to from

@@ -15,7 +15,7 @@ use Rattle.octets.specs.Shape.{isBare, leastOf}
 use Rattle.octets.specs.Frame.{longest}
 use Rattle.octets.specs.declared.heard.Kind.the-variants.{Authentication, Association, Reassociation}
 use Rattle.peer.specs.Query.{isDue}
-use Rattle.peer.specs.Settings.{ap, station}
+use Rattle.peer.specs.Settings.{ap, roleAnswers, roleAsks, roleAssociates, station}
 use Rattle.peer.specs.Record.{associates, awaitingOf, isAsked, isFree, isJoined, underWay}
 use Rattle.peer.specs.declared.settings.Settings.{Settings}
 use Rattle.peer.specs.declared.record.Record.{Record}
@@ -82,6 +82,9 @@ pub data Who : Type 0 where
   at-station : Who
   at-ap : Who
   at-both : Who
+  who-asks : Who
+  who-answers : Who
+  everyone : Who
 
 pub data Codes : Type 0 where
   zero-only : Codes
@@ -104,14 +107,18 @@ taken any c = true
 abbrev pub plays : Who → ℕ → Bool
 plays at-station role = eqb role station
 plays at-ap role = eqb role ap
-plays at-both role = true
+plays at-both role = roleAssociates role
+plays who-asks role = roleAsks role
+plays who-answers role = roleAnswers role
+plays everyone role = true
 
--- 01, "Primitives from our own side", its table: number, for whom, codes; 02, K5: "a new primitive 11 (AP, code 0)".
+-- 01, "Primitives from our own side", its table: number, for whom, codes; 02, K5: "a new primitive 11 (AP, code 0)"; 02, K10: "Authentication may
+-- be asked by either end, by both roles' rules", "5 for primitives 4 to 11".
 abbrev pub primitives : List Primitive
 primitives =
-    record { number = 1; who = at-station; codes = zero-only }
-    ∷ record { number = 2; who = at-ap; codes = any }
-    ∷ record { number = 3; who = at-both; codes = not-zero }
+    record { number = 1; who = who-asks; codes = zero-only }
+    ∷ record { number = 2; who = who-answers; codes = any }
+    ∷ record { number = 3; who = everyone; codes = not-zero }
     ∷ record { number = 4; who = at-station; codes = zero-only }
     ∷ record { number = 5; who = at-station; codes = zero-only }
     ∷ record { number = 6; who = at-both; codes = not-zero }

@@ -4,7 +4,7 @@ use Prim.Native.Nat.{ℕ}
 use mathlib.Core.Bool.{Bool, not, _&&_, _||_}
 use mathlib.Core.List.{List}
 use lib.Dec.{leb, eqb}
-use Rattle.peer.specs.Settings.{ap, settingsFit}
+use Rattle.peer.specs.Settings.{roleAnswers, settingsFit}
 use Rattle.peer.specs.Record.{isJoined, associates}
 use Rattle.peer.specs.Fit.{placeFits}
 use Rattle.peer.specs.declared.settings.Settings.{Settings}
@@ -25,9 +25,9 @@ distinctOf ads = allTails aloneIn ads
 unfoldable pub crowdOf : List Record → Counts
 crowdOf t = record { joined = countOf isJoined t; associating = countOf associates t }
 
--- "a station has at most one record in State 3 or 4 and at most one (re)association under way"
+-- "a station has at most one record in State 3 or 4 and at most one (re)association under way": the role that answers nobody
 unfoldable pub sparseOf : Settings → List Record → Bool
-sparseOf s t = eqb (s .role) ap || (leb (crowdOf t .joined) 1 && leb (crowdOf t .associating) 1)
+sparseOf s t = roleAnswers (s .role) || (leb (crowdOf t .joined) 1 && leb (crowdOf t .associating) 1)
 
 -- "settings in range and own address valid"; "each in State 1 to 4 or all zero", exchanges and times as they must be; the two above
 unfoldable pub wellFormed : Settings → List Record → Bool

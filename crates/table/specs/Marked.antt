@@ -32,10 +32,10 @@ them = 0x0a0000000002
 
 -- RSNA not required, timeouts of 100 TU; the first edition, and the times of a query that settings of 12 octets mean.
 abbrev pub asAp : Settings
-asAp = record { own = us; authentication = 100; association = 100; role = 1; rsna = 0; edition = 1; protection = 0; retry = 201; maximum = 1000 }
+asAp = record { own = us; network = 0; authentication = 100; association = 100; role = 1; rsna = 0; edition = 1; protection = 0; retry = 201; maximum = 1000 }
 
 abbrev pub asStation : Settings
-asStation = record { own = us; authentication = 100; association = 100; role = 2; rsna = 0; edition = 1; protection = 0; retry = 201; maximum = 1000 }
+asStation = record { own = us; network = 0; authentication = 100; association = 100; role = 2; rsna = 0; edition = 1; protection = 0; retry = 201; maximum = 1000 }
 
 -- Frame Control, duration 0, Address 1, Address 2, Address 3, sequence control 0, body.
 abbrev pub frameOf : ℕ → ℕ → List ℕ → List ℕ → List ℕ → List ℕ → List ℕ

@@ -4,12 +4,13 @@ use Prim.Native.Nat.{ℕ, _<_, _^_}
 use mathlib.Core.Path.{_≡_}
 use mathlib.Core.Bool.{true}
 use mathlib.Core.List.{List}
-use Rattle.octets.specs.Class.{classOf, numberOf}
+use Rattle.octets.specs.Class.{classIn, numberOf}
 use Rattle.octets.specs.Field.{allOctets, field}
 use Rattle.octets.specs.Heard.{heardOf}
 use Rattle.octets.specs.declared.heard.Heard.{Heard}
 use Rattle.octets.specs.declared.heard.Heard.the-variants as heard
 use Rattle.peer.specs.Said.{askedSays, repliedSays}
+use Rattle.peer.specs.Settings.{roleAssociates}
 use Rattle.peer.specs.declared.settings.Settings.{Settings}
 use Rattle.peer.specs.declared.record.Record.{Record}
 use Rattle.table.specs.Places.{addressesOf, findOf}
@@ -35,7 +36,7 @@ spokenTo (event.Clock d) xs = 0
 abbrev pub saysIn : Settings → List Record → Event → List ℕ → Heard
 saysIn s t event.Frame xs =
     let p = peerOf t (findOf (addressesOf t) (field 6 10 xs)) (field 6 10 xs) in
-    repliedSays s (p .state) (p .query) (numberOf (classOf xs)) (heardOf xs)
+    repliedSays s (p .state) (p .query) (numberOf (classIn (roleAssociates (s .role)) xs)) (heardOf xs)
 saysIn s t (event.Ask q a c) xs =
     let at = findOf (addressesOf t) a in
     askedSays q c (aidOf at) (othersOf s t .associated) (peerOf t at a .identifier)

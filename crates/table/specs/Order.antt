@@ -1,6 +1,6 @@
 -- Demand 3: a run over a list of events, what it is to move the events about, and that the outcome is the same.
 -- The first part is for any rules: R is a record of the table, E an event with the buffer that it is handed, A what it gets. The second is
--- the access point's rules. proofs/Order/DemandThree.antt proves `demand-3`.
+-- the rules of a role that answers. proofs/Order/DemandThree.antt proves `demand-3`.
 -- Assumes nothing.
 use Prim.Native.Nat.{ℕ, _<_}
 use mathlib.Core.Path.{_≡_}
@@ -11,7 +11,7 @@ use lib.Dec.{ltb}
 use lib.ListN.{length, getD, getElem?}
 use Rattle.octets.specs.Pick.{pick}
 use Rattle.octets.specs.Frame.{longest}
-use Rattle.peer.specs.Settings.{ap}
+use Rattle.peer.specs.Settings.{roleAnswers, roleAssociates}
 use Rattle.peer.specs.Record.{freeOf}
 use Rattle.peer.specs.Refuse.{roleAllowed}
 use Rattle.peer.specs.declared.settings.Settings.{Settings}
@@ -103,7 +103,7 @@ readPeer (From peer group k h) = some peer
 
 -- The peer that a primitive names: its address, where neither 3 nor 5 refuses it.
 abbrev pub comingPeer : Settings → Coming → Option ℕ
-comingPeer s (frame xs) = readPeer (readOf (s .own) xs)
+comingPeer s (frame xs) = readPeer (readOf (s .own) (roleAssociates (s .role)) xs)
 comingPeer s (primitive q a c) = pick (mayAsk s q a c) (pick (roleAllowed q (s .role)) (some a) none) none
 
 -- The valid peer that an event names; none, too, where its buffer is refused.
@@ -119,11 +119,11 @@ Whole s t = (wellFormed s t ≡ true) × (length t ≡ 32)
 
 -- Demand 3: "At an access point, take fixed settings, a well-formed table and a list of events without clock steps, each handed a buffer of its
 -- own, where every peer named already has a record. Move the events about .. the end table is the same place for place, and every event gets
--- the same answer and the same bytes."
+-- the same answer and the same bytes." 02, K10: "Demand 3 holds for role 3 too": for each role that answers.
 abbrev pub OrderFree : Settings → Type 0
 OrderFree s =
     (t : List Record) (l₁ l₂ : List Handed) (to from : ℕ → ℕ)
-    → s .role ≡ ap → Whole s t
+    → roleAnswers (s .role) ≡ true → Whole s t
     → Named freeOf addressOf (peerNamed s) t l₁
     → Moved (peerNamed s) l₁ l₂ to from
     → SameOutcome (happens s) t l₁ l₂ to

@@ -3,9 +3,9 @@
 use Prim.Native.Nat.{ℕ}
 use mathlib.Core.Bool.{false}
 use mathlib.Core.List.{List, [], _∷_}
-use lib.Dec.{ltb, eqb}
+use lib.Dec.{ltb}
 use Rattle.octets.specs.Pick.{pick}
-use Rattle.peer.specs.Settings.{ap}
+use Rattle.peer.specs.Settings.{roleAnswers}
 use Rattle.peer.specs.Record.{isJoined}
 use Rattle.peer.specs.declared.settings.Settings.{Settings}
 use Rattle.peer.specs.declared.record.Record.{Record}
@@ -17,9 +17,9 @@ unfoldable pub associatedOf : List Record → ℕ
 associatedOf [] = 0
 associatedOf (p ∷ ps) = pick (isJoined p) (p .address) (associatedOf ps)
 
--- At an access point the other records are not looked at.
+-- A role that answers does not look at the other records.
 unfoldable pub othersOf : Settings → List Record → Others
 othersOf s t =
-    pick (eqb (s .role) ap)
+    pick (roleAnswers (s .role))
     (record { associated = 0; busy = false })
     (record { associated = associatedOf t; busy = ltb 0 (crowdOf t .associating) })

@@ -8,7 +8,7 @@ use Rattle.octets.specs.Pick.{pick}
 use Rattle.octets.specs.Address.{validOf, groupOf}
 use Rattle.octets.specs.Element.{brokenOf}
 use Rattle.octets.specs.Field.{field}
-use Rattle.octets.specs.Class.{classOf}
+use Rattle.octets.specs.Class.{classIn}
 use Rattle.octets.specs.Heard.{heardOf}
 use Rattle.octets.specs.Shape.{shapeOf}
 use Rattle.octets.specs.declared.shape.Shape.{Shape}
@@ -25,24 +25,24 @@ unfoldable pub readBare : ℕ → List ℕ → Reading
 readBare own xs = pick (forUs own (field 6 4 xs)) Admitted (Refused 4)
 
 -- 02, K7: "A (re)association response, at either role, whose elements do not end with the frame is refused. .. Refusals: 3, given after Address 2
--- has been checked and before the class."
-unfoldable pub readFrom : ℕ → ℕ → List ℕ → Reading
-readFrom peer to xs = pick (brokenOf xs) (Refused 3) (From peer (groupOf to) (classOf xs) (heardOf xs))
+-- has been checked and before the class." The class goes by whether there are access points (02, K10).
+unfoldable pub readFrom : Bool → ℕ → ℕ → List ℕ → Reading
+readFrom infrastructure peer to xs = pick (brokenOf xs) (Refused 3) (From peer (groupOf to) (classIn infrastructure xs) (heardOf xs))
 
 -- 4., then 5. "Address 2 (octets 10-15) invalid or own: 3. It names the peer."
-unfoldable pub readFull : ℕ → List ℕ → Reading
-readFull own xs =
+unfoldable pub readFull : ℕ → Bool → List ℕ → Reading
+readFull own infrastructure xs =
     pick (not (forUs own (field 6 4 xs))) (Refused 4)
     (pick (eqb (field 6 10 xs) own || not (validOf (field 6 10 xs))) (Refused 3)
-    (readFrom (field 6 10 xs) (field 6 4 xs) xs))
+    (readFrom infrastructure (field 6 10 xs) (field 6 4 xs) xs))
 
 -- 1. to 3. are the frame's shape: "Under 10 or over 4,096 bytes: 3"; "Version not 0, or no class: discard, nothing else"; "Below its least
 -- length: 3".
-abbrev pub readAs : Shape → ℕ → List ℕ → Reading
-readAs Misfit own xs = Refused 3
-readAs Classless own xs = Discarded
-readAs Bare own xs = readBare own xs
-readAs Full own xs = readFull own xs
+abbrev pub readAs : Shape → ℕ → Bool → List ℕ → Reading
+readAs Misfit own infrastructure xs = Refused 3
+readAs Classless own infrastructure xs = Discarded
+readAs Bare own infrastructure xs = readBare own xs
+readAs Full own infrastructure xs = readFull own infrastructure xs
 
-unfoldable pub readOf : ℕ → List ℕ → Reading
-readOf own xs = readAs (shapeOf xs) own xs
+unfoldable pub readOf : ℕ → Bool → List ℕ → Reading
+readOf own infrastructure xs = readAs (shapeOf xs) own infrastructure xs

@@ -11,6 +11,7 @@ use Rattle.octets.specs.declared.heard.Heard.{Heard}
 use Rattle.peer.specs.Turn.{admit, discard}
 use Rattle.peer.specs.Authentication.{fullOf}
 use Rattle.peer.specs.Hear.{hearOf}
+use Rattle.peer.specs.Settings.{roleAssociates}
 use Rattle.peer.specs.declared.settings.Settings.{Settings}
 use Rattle.peer.specs.declared.record.Record.{Record}
 use Rattle.table.specs.Places.{addressesOf, findOf}
@@ -40,4 +41,4 @@ unfoldable pub receivedOf : Settings → List Record → List ℕ → ℕ → Me
 receivedOf s t xs n =
     pick (ltb n longest) (refusedOf t 1)
     (pick (not (wellFormed s t)) (refusedOf t 2)
-    (heardAt s t (addressesOf t) (readOf (s .own) xs)))
+    (heardAt s t (addressesOf t) (readOf (s .own) (roleAssociates (s .role)) xs)))

@@ -189,10 +189,10 @@ empty : List ℕ
 empty = replicate 768 0
 
 -- an access point in octets: role 1, address 02:00:00:00:00:01, no RSNA, timeouts of 100 TU
-access-point : List ℕ
+pub access-point : List ℕ
 access-point = 1 ∷ octets 6 us ++ 0 ∷ octets 2 100 ++ octets 2 100
 
-example-settings : settingsIn access-point ≡ asAp
+pub example-settings : settingsIn access-point ≡ asAp
 unfolding settingsIn settingsLength editionIn retryIn maximumIn octets access-point
 example-settings = refl
 

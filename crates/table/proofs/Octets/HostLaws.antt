@@ -10,6 +10,7 @@ use borrow.Author.Tests.{lt-ltb, le-ltb, eq-eqb, ne-eqb}
 use lib.Seq.{sets}
 use Rattle.octets.proofs.Branch.{by-bool, and-left}
 use Rattle.octets.proofs.RowTrip.{Octets}
+use Rattle.peer.specs.Settings.{roleAssociates}
 use Rattle.peer.specs.declared.settings.Settings.{Settings}
 use Rattle.peer.specs.declared.record.Record.{Record}
 use Rattle.peer.specs.declared.refuse.Others.{Others}
@@ -118,7 +119,7 @@ module _ (xs : List ℕ) (s : Settings) (d : ℕ) (l : List ℕ) (i : isTable xs
 
 -- A frame and a primitive over records that are well formed, with room: what is left of the definitions.
 module _ (s : Settings) (t : List Record) where
-  pub frame-heard : (fs : List ℕ) (n : ℕ) → 37 ≤ n → wellFormed s t ≡ true → heardAt s t (addressesOf t) (readOf (s .own) fs) ≡ receivedOf s t fs n
+  pub frame-heard : (fs : List ℕ) (n : ℕ) → 37 ≤ n → wellFormed s t ≡ true → heardAt s t (addressesOf t) (readOf (s .own) (roleAssociates (s .role)) fs) ≡ receivedOf s t fs n
   unfolding receivedOf
   frame-heard fs n r w = rw (le-ltb n 37 r, w)
 

@@ -7,7 +7,7 @@ use mathlib.Core.List.{List, [], _∷_}
 use mathlib.Core.Option.{Option, none, some}
 use lib.ListN.{length, getElem?}
 use borrow.Author.Tests.{le-ltb}
-use Rattle.peer.specs.Settings.{ap as accessPoint}
+use Rattle.peer.specs.Settings.{roleAnswers}
 use Rattle.peer.specs.declared.record.Record.{Record}
 use Rattle.peer.specs.declared.settings.Settings.{Settings}
 use Rattle.table.specs.Boundary.{answerIn, settingsIn}
@@ -18,10 +18,10 @@ use Rattle.table.specs.Rows.{octetsOf, recordsOf}
 use Rattle.table.proofs.Octets.CallsInRow.{Keeps, Row, each-octet, in-row}
 use Rattle.table.proofs.Octets.RowLaws.{length-records, octets-of-records}
 use Rattle.table.proofs.Order.DemandThree.{demand-3}
-use Rattle.table.proofs.Theorems.StepKeeps.{step-keeps-at-ap}
+use Rattle.table.proofs.Theorems.StepKeeps.{step-keeps-answering}
 
-at-ap-well : (s : Settings) → s .role ≡ accessPoint → (xs : List ℕ) (c : Call) → Keeps s xs c
-at-ap-well s role xs c w = step-keeps-at-ap s role (recordsOf xs) w (length-records 32 0 xs) (c .event) (c .frame) (length (c .out))
+answering-well : (s : Settings) → roleAnswers (s .role) ≡ true → (xs : List ℕ) (c : Call) → Keeps s xs c
+answering-well s role xs c w = step-keeps-answering s role (recordsOf xs) w (length-records 32 0 xs) (c .event) (c .frame) (length (c .out))
 
 all-true : {E : Type 0} (l : List E) → allOf (λ (e : E). true) l ≡ true
 unfolding allTails
@@ -62,7 +62,7 @@ module _ (ss : List ℕ) (room : Handed → List ℕ) (roomy : (e : Handed) → 
 pub demand-3-octets : (ss : List ℕ) → OrderFreeOctets ss
 demand-3-octets ss xs room l₁ l₂ to from role o h w roomy named moved =
     let s = settingsIn ss in
-    let row : (l : List Handed) → Row ss (callOf room) xs l = λ l. in-row ss (callOf room) (λ e. true) (λ ys e t. at-ap-well s role ys (callOf room e)) l xs h (octets-of-records xs (each-octet xs o) h) (all-true l) in
+    let row : (l : List Handed) → Row ss (callOf room) xs l = λ l. in-row ss (callOf room) (λ e. true) (λ ys e t. answering-well s role ys (callOf room e)) l xs h (octets-of-records xs (each-octet xs o) h) (all-true l) in
     let same = demand-3 s (recordsOf xs) l₁ l₂ to from role (w, length-records 32 0 xs) named moved in
     record {
       table = row l₂ .octets ∙ ap octetsOf (end-is ss room roomy l₂ (recordsOf xs) ∙ same .table ∙ sym (end-is ss room roomy l₁ (recordsOf xs))) ∙ sym (row l₁ .octets);

@@ -6,18 +6,20 @@ use mathlib.Core.Bool.{Bool, true, false, not, _&&_, _||_}
 use Prim.Native.Nat.{ℕ, zero, suc, _≤_, _<_}
 use native.Mathlib.Omega.{arith}
 use lib.Dec.{eqb, leb, ltb}
-use borrow.Author.Tests.{le-leb, lt-leb, le-ltb, ne-eqb, eqb-false, eqb-true, leb-true, not-true}
+use borrow.Author.Tests.{le-leb, lt-leb, ne-eqb, eqb-true, leb-true}
 use Rattle.octets.specs.Address.{validOf}
 use Rattle.octets.specs.Row.{noRow}
 use Rattle.octets.specs.declared.row.Row.{Row}
-use Rattle.octets.proofs.Branch.{and-left, and-right, by-bool}
-use Rattle.peer.proofs.Fits.{both, clash, fits-of}
-use Rattle.peer.specs.Fit.{askedFits, awaitingFits, exchangeFits, holdFits, queryAllowed, queryFits, recordFits, sentFits, stands}
+use Rattle.octets.proofs.Branch.{by-bool}
+use Rattle.octets.specs.Pick.{pick}
+use Rattle.peer.proofs.Fits.{both, clash, fits-of, wrong}
+use Rattle.peer.specs.Fit.{askedFits, awaitingFits, exchangeFits, highestState, holdFits, queryAllowed, queryFits, recordFits, sentFits, stands}
 use Rattle.peer.proofs.QueryFits.{number-back}
 use Rattle.peer.specs.Query.{queryLeft, queryNumber, queryOf}
 use Rattle.peer.specs.Record.{associates, exchangeOf, isFree, underWay}
-use Rattle.peer.specs.Settings.{ap, settingsFit, station, timeFits}
+use Rattle.peer.specs.Settings.{roleAnswers, roleAsks, roleAssociates, timeFits}
 use Rattle.peer.specs.declared.settings.Settings.{Settings}
+use Rattle.table.proofs.Passes.Loops.{and-false, and-true}
 use Rattle.table.specs.Rows.{queryNumbered, recordOf, rowNumbered}
 use Rattle.table.specs.declared.host.standing.Standing.{Standing}
 
@@ -36,42 +38,33 @@ by-number P a b c d e f g h i j k (suc (suc (suc (suc (suc (suc (suc (suc (suc z
 by-number P a b c d e f g h i j k (suc (suc (suc (suc (suc (suc (suc (suc (suc (suc n)))))))))) =
     k (suc (suc (suc (suc (suc (suc (suc (suc (suc (suc n)))))))))) (omega arith)
 
--- At an access point no time is left; then none and 1, or from State 2 on 2, 3, 5 and 6.
-pub ap-timed : (e state left : ℕ) → eqb left 0 ≡ false → (leb e 9 && exchangeFits (exchangeOf e) ap state left) ≡ false
-unfolding exchangeOf askedFits awaitingFits sentFits
-ap-timed e state left h =
-    by-number (λ e. (leb e 9 && exchangeFits (exchangeOf e) ap state left) ≡ false)
-    (rw h) (rw h) (rw h) (rw h) refl (rw h) (rw h) refl refl refl
-    (λ n m. rw (lt-leb n 9 m)) e
+-- Whether an exchange is for a role, and has a time exactly if it was sent: from number 7 on.
+abbrev pub timedAt : ℕ → ℕ → ℕ → Bool
+timedAt role e left = pick (ltb e 7) (roleAnswers role && eqb left 0) (roleAsks role && not (eqb left 0))
 
-pub ap-untimed : (e state : ℕ) → (leb e 9 && exchangeFits (exchangeOf e) ap state 0) ≡ (ltb e 2 || ((leb e 6 && not (eqb e 4)) && leb 2 state))
-unfolding exchangeOf askedFits awaitingFits sentFits stands
-ap-untimed e state =
-    by-number (λ e. (leb e 9 && exchangeFits (exchangeOf e) ap state 0) ≡ (ltb e 2 || ((leb e 6 && not (eqb e 4)) && leb 2 state)))
-    refl refl refl refl refl refl refl refl refl refl
-    (λ n m. rw (lt-leb n 9 m, le-ltb n 2 (omega arith), lt-leb n 6 (omega arith))) e
-
--- At a station none has no time left; with time left 7, or from State 2 on 8 and 9.
-pub station-untimed : (e state : ℕ) → (leb e 9 && exchangeFits (exchangeOf e) station state 0) ≡ eqb e 0
-unfolding exchangeOf askedFits awaitingFits sentFits timeFits
-station-untimed e state =
-    by-number (λ e. (leb e 9 && exchangeFits (exchangeOf e) station state 0) ≡ eqb e 0)
-    refl refl refl refl refl refl refl refl refl refl
-    (λ n m. rw (lt-leb n 9 m, ne-eqb n 0 (omega arith))) e
-
-pub station-timed : (e state left : ℕ) → eqb left 0 ≡ false → left ≤ 65535 → (leb e 9 && exchangeFits (exchangeOf e) station state left) ≡ (eqb e 7 || ((leb 8 e && leb e 9) && leb 2 state))
-unfolding exchangeOf askedFits awaitingFits sentFits timeFits stands
-station-timed e state left h l =
-    by-number (λ e. (leb e 9 && exchangeFits (exchangeOf e) station state left) ≡ (eqb e 7 || ((leb 8 e && leb e 9) && leb 2 state)))
-    (rw h) refl refl refl refl refl refl (rw (h, top)) (rw (h, top)) (rw (h, top))
-    (λ n m. rw (lt-leb n 9 m, ne-eqb n 7 (omega arith)) (none (leb 8 n))) e
+-- None has no time left. Any other is for its role; it is 1 or 7, or 2, 3, 5, 6, 8 or 9 from State 2 on, where there are associations.
+pub fits-by : (role e state left : ℕ) → left ≤ 65535
+    → (leb e 9 && exchangeFits (exchangeOf e) role state left)
+    ≡ pick (eqb e 0) (eqb left 0) (timedAt role e left && (eqb e 1 || (eqb e 7 || ((leb e 9 && not (eqb e 4)) && (roleAssociates role && leb 2 state)))))
+unfolding exchangeOf askedFits awaitingFits sentFits stands timeFits
+fits-by role e state left l =
+    by-number (λ e. (leb e 9 && exchangeFits (exchangeOf e) role state left) ≡ pick (eqb e 0) (eqb left 0) (timedAt role e left && (eqb e 1 || (eqb e 7 || ((leb e 9 && not (eqb e 4)) && (roleAssociates role && leb 2 state))))))
+    refl (asked true) (asked joins) (asked joins) (sym (and-false (roleAnswers role && eqb left 0))) (asked joins) (asked joins)
+    (sent true) (sent joins) (sent joins)
+    (λ n m. rw (lt-leb n 9 m, ne-eqb n 0 (omega arith), ne-eqb n 1 (omega arith), ne-eqb n 7 (omega arith)) (sym (and-false (timedAt role n left)))) e
   where
-    top : leb left 65535 ≡ true
-    top = le-leb left 65535 l
+    joins : Bool
+    joins = roleAssociates role && leb 2 state
 
-    none : (b : Bool) → false ≡ ((b && false) && leb 2 state)
-    none true = refl
-    none false = refl
+    group : (a b c : Bool) → (a && (b && c)) ≡ ((a && b) && c)
+    group true b c = refl
+    group false b c = refl
+
+    asked : (c : Bool) → (roleAnswers role && (eqb left 0 && c)) ≡ ((roleAnswers role && eqb left 0) && c)
+    asked c = group (roleAnswers role) (eqb left 0) c
+
+    sent : (c : Bool) → (roleAsks role && ((not (eqb left 0) && leb left 65535) && c)) ≡ ((roleAsks role && not (eqb left 0)) && c)
+    sent c = rw (le-leb left 65535 l, and-true (not (eqb left 0))) (group (roleAsks role) (not (eqb left 0)) c)
 
 -- Which numbers are (re)associations.
 pub joins : (e : ℕ) → e ≤ 9 → leb 2 (underWay (exchangeOf e)) ≡ not (ltb e 2 || (eqb e 4 || eqb e 7))
@@ -138,17 +131,13 @@ free-row r n h =
       query = none i;
     }
 
--- What does not fit has no standing.
-pub no-standing : (x : Standing) → x ≡ record { fit = false; associating = false } → (b z : Bool) → b ≡ false → (x .fit ≡ b) × (x .fit ≡ true → x .associating ≡ z)
-no-standing x q b z e = (rw (q, e), λ t. cc (rw q at t))
+-- Without a (re)association; what does not fit has none.
+pub alone-standing : (x : Standing) (f : Bool) → x ≡ record { fit = f; associating = false } → (b z : Bool) → b ≡ f → (f ≡ true → z ≡ false)
+    → (x .fit ≡ b) × (x .fit ≡ true → x .associating ≡ z)
+alone-standing x f q b z e n = (rw (q, e), λ t. rw (q, n (rw q at t)))
 
--- Settings that fit are an access point's or a station's.
-pub a-station : (s : Settings) → settingsFit s ≡ true → eqb (s .role) ap ≡ false → s .role ≡ station
-unfolding settingsFit
-a-station s h e =
-    let low : eqb (s .role) 0 ≡ false = not-true (eqb (s .role) 0) (and-left (not (eqb (s .role) 0)) _ h) in
-    let high : leb (s .role) 2 ≡ true = and-left (leb (s .role) 2) _ (and-right (not (eqb (s .role) 0)) _ h) in
-    omega (arith, eqb-false (s .role) 0 low, leb-true (s .role) 2 high, eqb-false (s .role) ap e)
+pub no-standing : (x : Standing) → x ≡ record { fit = false; associating = false } → (b z : Bool) → b ≡ false → (x .fit ≡ b) × (x .fit ≡ true → x .associating ≡ z)
+no-standing x q b z e = alone-standing x false q b z e wrong
 
 -- A query that does not stand, where it does not: by its numbers, or by role, state and time.
 pub query-unfit : (s : Settings) (r : Row) → (queryNumbered (r .query) (r .remaining) && queryFits s (r .state) (queryOf (r .query) (r .remaining))) ≡ false → (rowNumbered r && recordFits s (recordOf r)) ≡ false
@@ -159,21 +148,17 @@ query-unfit s r h = by-bool (rowNumbered r && recordFits s (recordOf r))
     clash (rw (both (queryNumbered (r .query) (r .remaining)) _ (a .0) .0) (fits-of s (recordOf r) (a .1) .queries)) h)
     (λ f. f)
 
-and-true : (b : Bool) → (b && true) ≡ b
-and-true true = refl
-and-true false = refl
-
 query-allowed : (s : Settings) (r : Row) → r .identifier ≤ 65535 → queryFits s (r .state) (queryOf (r .query) (r .remaining)) ≡ true → queryAllowed s (recordOf r) ≡ true
 unfolding queryAllowed recordOf
 query-allowed s r id h = rw (le-leb (r .identifier) 65535 id) h
 
 -- A record that fits but for its exchange has its exchange's standing.
-pub by-exchange : (s : Settings) (r : Row) (x : Standing) (role : ℕ) → s .role ≡ role → leb 1 (r .state) ≡ true → leb (r .state) 4 ≡ true → eqb (r .address) (s .own) ≡ false → validOf (r .address) ≡ true
-    → holdFits role (r .hold) ≡ true → r .identifier ≤ 65535
+pub by-exchange : (s : Settings) (r : Row) (x : Standing) → leb 1 (r .state) ≡ true → leb (r .state) (highestState (s .role)) ≡ true → eqb (r .address) (s .own) ≡ false → validOf (r .address) ≡ true
+    → holdFits (s .role) (r .hold) ≡ true → r .identifier ≤ 65535
     → (queryNumbered (r .query) (r .remaining) && queryFits s (r .state) (queryOf (r .query) (r .remaining))) ≡ true
-    → (x .fit ≡ (leb (r .exchange) 9 && exchangeFits (exchangeOf (r .exchange)) role (r .state) (r .left))) × (x .fit ≡ true → x .associating ≡ leb 2 (underWay (exchangeOf (r .exchange))))
+    → (x .fit ≡ (leb (r .exchange) 9 && exchangeFits (exchangeOf (r .exchange)) (s .role) (r .state) (r .left))) × (x .fit ≡ true → x .associating ≡ leb 2 (underWay (exchangeOf (r .exchange))))
     → (x .fit ≡ (rowNumbered r && recordFits s (recordOf r))) × (x .fit ≡ true → x .associating ≡ associates (recordOf r))
 unfolding recordFits recordOf associates rowNumbered
-by-exchange s r x role e low high own ok hold id query h =
+by-exchange s r x low high own ok hold id query h =
     let q = both (queryNumbered (r .query) (r .remaining)) _ query in
-    (rw (q .0, query-allowed s r id (q .1), low, high, own, ok, e, hold, and-true (exchangeFits (exchangeOf (r .exchange)) role (r .state) (r .left))) (h .0), h .1)
+    (rw (q .0, query-allowed s r id (q .1), low, high, own, ok, hold, and-true (exchangeFits (exchangeOf (r .exchange)) (s .role) (r .state) (r .left))) (h .0), h .1)

@@ -19,7 +19,7 @@ use Rattle.octets.proofs.RowTrip.{blank-row, row-blank}
 use Rattle.peer.proofs.Fits.{Fits, both, clash, fits-of, or-right}
 use Rattle.peer.specs.Fit.{placeFits, recordFits}
 use Rattle.peer.specs.Record.{associates, freeOf, isFree, isJoined}
-use Rattle.peer.specs.Settings.{ap as access-point, settingsFit}
+use Rattle.peer.specs.Settings.{roleAnswers, settingsFit}
 use Rattle.peer.specs.declared.record.Record.{Record}
 use Rattle.peer.specs.declared.settings.Settings.{Settings}
 use Rattle.table.specs.Fit.{apart, crowdOf, sparseOf, wellFormed}
@@ -147,7 +147,7 @@ surveyed-from s xs n marks w (suc k) i e b =
 
 -- After the first place.
 pub surveyed-all : (s : Settings) (xs : List ℕ) (marks : List Bool) (associated joined associating i : ℕ) → Surveyed s xs marks associated joined associating i → i ≤ 0 → settingsFit s ≡ true → (b : Bool)
-    → b ≡ (eqb (s .role) access-point || (leb joined 1 && leb associating 1))
+    → b ≡ (roleAnswers (s .role) || (leb joined 1 && leb associating 1))
     → (b ≡ (numberedAt 32 0 xs && wellFormed s (recordsOf xs))) × (b ≡ true → (associated ≡ associatedOf (recordsOf xs)) × (record { joined = joined; associating = associating } ≡ crowdOf (recordsOf xs)))
 unfolding wellFormed sparseOf
 surveyed-all s xs marks associated joined associating i v h f b e =

@@ -1,4 +1,4 @@
--- At an access point the order between different peers' events does not matter, by the laws of `Local`.
+-- The order between different peers' events does not matter, by the laws of `Local`.
 --     Local          an event acts on its own peer's record alone
 --     same-record    one peer's record depends on that peer's own events, in their order
 --     any-order      the theorem

@@ -1,18 +1,21 @@
 -- A peer's own record, in the table and under the rules: what demand 3 stands on.
 --     find-at                in a table in which no address stands twice, a peer is found at its place
---     hear-alone, ask-alone  at an access point no rule touches another record
+--     hear-alone, ask-alone  where the role answers, no rule touches another record
 -- Assumes nothing.
 use Prim.Native.Nat.{ℕ, zero, suc, _+_, _<_}
 use native.Mathlib.Nat.{not-suc-le-zero, le-of-suc-le-suc}
 use native.Mathlib.Omega.{arith}
 use mathlib.Core.Path.{_≡_, refl, sym, ap, _∙_}
-use mathlib.Core.Bool.{Bool, true, false, not, _&&_, _||_, true≢false}
+use mathlib.Core.Bool.{Bool, true, false, not, _&&_, _||_}
 use mathlib.Core.List.{List, [], _∷_}
 use lib.Dec.{eqb, ltb}
 use lib.ListN.{length, getD, length-map, List·getD-map}
-use borrow.Author.Tests.{eqb-true, eqb-false, eq-eqb, not-true}
-use Rattle.octets.proofs.Branch.{and-left, and-right, by-bool, pick-both}
-use Rattle.peer.proofs.Fits.{fits-of}
+use borrow.Author.Tests.{eqb-true, eqb-false, eq-eqb, not-false, not-true}
+use Rattle.octets.proofs.Branch.{and-left, and-right, by-bool, pick-both, pick-by}
+use Rattle.peer.proofs.Classes.{Classed, passes-classed}
+use Rattle.peer.proofs.Fits.{clash, fits-of, sent-asks}
+use Rattle.peer.proofs.Roles.{authentication-by, no-answers, request-by}
+use Rattle.octets.specs.Class.{classless}
 use Rattle.octets.specs.Pick.{pick}
 use Rattle.octets.specs.declared.class.FrameClass.{FrameClass}
 use Rattle.octets.specs.declared.heard.Heard.{Heard}
@@ -20,15 +23,15 @@ use Rattle.octets.specs.declared.heard.Heard.the-variants as heard
 use Rattle.octets.specs.declared.heard.Kind.{Kind}
 use Rattle.octets.specs.declared.heard.Kind.the-variants as kind
 use Rattle.octets.specs.declared.element.Comeback.{Comeback}
-use Rattle.peer.specs.Settings.{ap as accessPoint, settingsFit}
-use Rattle.peer.specs.Record.{freeOf, sentOf, underWay, isFree, isSent}
-use Rattle.peer.specs.Fit.{exchangeFits, placeFits, sentFits}
+use Rattle.peer.specs.Settings.{roleAnswers, roleAssociates, settingsFit}
+use Rattle.peer.specs.Record.{freeOf, kindOf, sentOf, underWay, isFree, isSent}
+use Rattle.peer.specs.Fit.{placeFits}
 use Rattle.peer.specs.Turn.{turnOf, repliedOf, stillOf}
 use Rattle.peer.specs.Filter.{passesOf}
-use Rattle.peer.specs.Authentication.{requestedOf, authenticationAtAp, authenticationAtStation, authenticationHeard}
+use Rattle.peer.specs.Authentication.{requestedOf}
 use Rattle.peer.specs.Farewell.{deauthenticationHeard, disassociationHeard}
-use Rattle.peer.specs.Association.{requestHeard, responseHeard}
-use Rattle.peer.specs.Challenge.{challengedOf, inquiredOf, isChallenged, queryRequestHeard, queryResponseHeard}
+use Rattle.peer.specs.Association.{responseHeard}
+use Rattle.peer.specs.Challenge.{challengedOf, inquiredOf, queryRequestHeard, queryResponseHeard}
 use Rattle.peer.specs.Query.{isRunning, queryNumber}
 use Rattle.peer.specs.Hear.{isExchange, isQuery, actOf, groupHeard, hearOf}
 use Rattle.peer.specs.Ask.{startedOf, answerOf, deauthenticateOf, failedOf, associateOf, reassociateOf, disassociateOf, awaitedOf, declinedOf, respondOf, secureOf, reportOf, askOf}
@@ -42,14 +45,6 @@ use Rattle.table.specs.Places.{firstFrom, allTails, allOf, addressesOf, 
 use Rattle.table.specs.Fit.{apart, aloneIn, distinctOf, sparseOf, wellFormed}
 use Rattle.table.specs.Order.{addressOf}
 use Rattle.table.specs.declared.rules.seat.Found.the-variants.{At}
-
--- at an access point no exchange is sent
-pub sent-fits : (e : Exchange) (role state left : ℕ) → role ≡ accessPoint → exchangeFits e role state left ≡ true → sentOf e ≡ 0
-unfolding sentFits
-sent-fits None role state left r h = refl
-sent-fits (Asked k) role state left r h = refl
-sent-fits (Awaiting k) role state left r h = refl
-sent-fits (Sent k) role state left r h = absurd (true≢false (sym (rw r at h)))
 
 -- a place in a list whose every element passes a test
 pub all-at : {A : Type 0} (f : A → Bool) (t : List A) (i : ℕ) (d : A) → allOf f t ≡ true → i < length t → f (getD t i d) ≡ true
@@ -81,6 +76,10 @@ find-at t i d h z =
     ∙ ap At (omega arith)
 
 -- what well-formedness gives
+pub wf-settings : (s : Settings) (t : List Record) → wellFormed s t ≡ true → settingsFit s ≡ true
+unfolding wellFormed
+wf-settings s t w = and-left (settingsFit s) (allOf (placeFits s) t && (distinctOf (addressesOf t) && sparseOf s t)) w
+
 pub wf-distinct : (s : Settings) (t : List Record) → wellFormed s t ≡ true → distinctOf (addressesOf t) ≡ true
 unfolding wellFormed
 wf-distinct s t w =
@@ -91,9 +90,14 @@ unfolding wellFormed
 wf-fits s t w =
     and-left (allOf (placeFits s) t) (distinctOf (addressesOf t) && sparseOf s t) (and-right (settingsFit s) (allOf (placeFits s) t && (distinctOf (addressesOf t) && sparseOf s t)) w)
 
--- no rule touches another record: at an access point no exchange is sent
+-- no rule touches another record: of those who answer, an AP sends no request, and in an ad hoc network no response passes
 abbrev pub Alone : Turn → Type 0
 Alone t = t .sole ≡ false
+
+no-kind : (k : Kind) → eqb 0 (kindOf k) ≡ false
+no-kind kind.Authentication = refl
+no-kind kind.Association = refl
+no-kind kind.Reassociation = refl
 
 sent-free : (e : Exchange) → underWay e ≡ 0 → sentOf e ≡ 0
 sent-free None h = refl
@@ -101,45 +105,49 @@ sent-free (Asked k) h = refl
 sent-free (Awaiting k) h = refl
 sent-free (Sent k) h = h
 
-module _ (s : Settings) (p : Record) (r : s .role ≡ accessPoint) (w : placeFits s p ≡ true) where
-  none-sent : sentOf (p .exchange) ≡ 0
+module _ (s : Settings) (p : Record) (fit : settingsFit s ≡ true) (r : roleAnswers (s .role) ≡ true) (w : placeFits s p ≡ true) where
+  none-sent : (k : Kind) → roleAssociates (s .role) ≡ true → isSent k (p .exchange) ≡ false
   unfolding placeFits isFree
-  none-sent = by-bool (isFree p)
+  none-sent k on = by-bool (isFree p)
       (λ f.
-      sent-free (p .exchange)
+      rw (sent-free (p .exchange)
       (eqb-true (underWay (p .exchange)) 0
       (and-right (eqb (queryNumber (p .query)) 0) _
       (and-right (eqb (p .identifier) 0) _
       (and-right (eqb (p .hold) 0) _
       (and-right (eqb (p .left) 0) _ (and-right (eqb (p .state) 0) _ (and-right (eqb (p .address) 0) _ f))))))))
-      (λ f. sent-fits (p .exchange) (s .role) (p .state) (p .left) r (fits-of s p (rw f at w) .suits))
+      (no-kind k))
+      (λ f. by-bool (isSent k (p .exchange))
+      (λ q. clash r (no-answers s fit (sent-asks (p .exchange) k (s .role) (p .state) (p .left) (fits-of s p (rw f at w) .suits) q) on))
+      (λ q. q))
 
-  response-alone : (k : Kind) (status aid : ℕ) (c : Comeback) → Alone (responseHeard s p k status aid c)
+  response-alone : (k : Kind) (status aid : ℕ) (c : Comeback) → roleAssociates (s .role) ≡ true → Alone (responseHeard s p k status aid c)
   unfolding responseHeard stillOf repliedOf turnOf
-  response-alone kind.Authentication status aid c = rw none-sent
-  response-alone kind.Association status aid c = rw none-sent
-  response-alone kind.Reassociation status aid c = rw none-sent
+  response-alone k status aid c on = rw (none-sent k on)
 
-  act-alone : (h : Heard) → Alone (actOf s p h)
-  unfolding stillOf repliedOf turnOf authenticationHeard authenticationAtAp authenticationAtStation requestedOf deauthenticationHeard disassociationHeard requestHeard challengedOf queryRequestHeard queryResponseHeard
-  act-alone heard.Other = refl
-  act-alone (heard.Authentication algorithm transaction status) =
-      pick-both Alone (eqb (s .role) accessPoint)
-      (pick-both Alone (eqb transaction 1) (pick-both Alone (eqb algorithm 0) refl refl) refl)
-      (pick-both Alone (eqb algorithm 0 && (eqb transaction 2 && isSent kind.Authentication (p .exchange))) refl refl)
-  act-alone (heard.Deauthentication reason) = pick-both Alone (ltb (p .state) 2) refl refl
-  act-alone (heard.Disassociation reason) = pick-both Alone (ltb (p .state) 3) refl refl
-  act-alone (heard.Request k current) = pick-both Alone (eqb (s .role) accessPoint) (pick-both Alone (isChallenged s p) refl refl) refl
-  act-alone (heard.Response k status aid c) = response-alone k status aid c
-  act-alone (heard.QueryRequest identifier) = pick-both Alone (eqb (p .state) 4) refl refl
-  act-alone (heard.QueryResponse identifier) =
+  -- (what is heard has the class of its kind, where nobody associates)
+  act-alone : (k : FrameClass) (h : Heard) → (roleAssociates (s .role) ≡ false → Classed k h) → passesOf (s .role) k (p .state) ≡ true → Alone (actOf s p h)
+  unfolding stillOf repliedOf turnOf requestedOf deauthenticationHeard disassociationHeard challengedOf queryRequestHeard queryResponseHeard
+  act-alone k heard.Other b e = refl
+  act-alone k (heard.Authentication algorithm transaction status) b e =
+      authentication-by s p Alone algorithm transaction status (λ a z. refl) (λ z. refl) (λ q. refl) refl
+  act-alone k (heard.Deauthentication reason) b e = pick-both Alone (ltb (p .state) 2) refl refl
+  act-alone k (heard.Disassociation reason) b e = pick-both Alone (ltb (p .state) 3) refl refl
+  act-alone k (heard.Request kind current) b e = request-by s p Alone kind current (λ a c. refl) (λ a. refl) refl
+  act-alone k (heard.Response kind status aid c) b e =
+      response-alone kind status aid c (by-bool (roleAssociates (s .role)) (λ on. on) (λ off. and-left (roleAssociates (s .role)) _ (rw (b off) at e)))
+  act-alone k (heard.QueryRequest identifier) b e = pick-both Alone (eqb (p .state) 4) refl refl
+  act-alone k (heard.QueryResponse identifier) b e =
       pick-both Alone (eqb (p .state) 4 && (isRunning (p .query) && eqb identifier (p .identifier))) refl refl
 
-  pub hear-alone : (k : FrameClass) (group : Bool) (h : Heard) → Alone (hearOf s p k group h)
+  pub hear-alone : (k : FrameClass) (group : Bool) (h : Heard) → (roleAssociates (s .role) ≡ false → classless k ≡ false → Classed k h) → Alone (hearOf s p k group h)
   unfolding hearOf groupHeard stillOf repliedOf turnOf
-  hear-alone k group h =
-      pick-both Alone (not (passesOf k (p .state))) refl
-      (pick-both Alone group (pick-both Alone (isExchange h) refl (pick-both Alone (isQuery h) refl (act-alone h))) (act-alone h))
+  hear-alone k group h b = pick-by Alone (not (passesOf (s .role) k (p .state)))
+      (λ e. refl)
+      (λ e.
+      let on = not-false _ e in
+      let a = act-alone k h (λ off. b off (passes-classed (s .role) k (p .state) on)) on in
+      pick-both Alone group (pick-both Alone (isExchange h) refl (pick-both Alone (isQuery h) refl a)) a)
 
 pub ask-alone : (s : Settings) (aid : ℕ) (p : Record) (o : Others) (q c : ℕ) → Alone (askOf s aid p o q c)
 unfolding askOf startedOf answerOf deauthenticateOf associateOf reassociateOf failedOf disassociateOf respondOf awaitedOf declinedOf secureOf reportOf inquiredOf turnOf

@@ -1,4 +1,4 @@
--- At an access point an event acts on its own peer's record alone: what the event makes of that record, and what it gets.
+-- Where the role answers an event acts on its own peer's record alone: what the event makes of that record, and what it gets.
 --     next, said, alone       the record after it; what it gets; and what it gets where it names no peer
 --     acts, stays, same-of    the laws of `Local` (AnyOrder.antt) but `keeps`
 -- Assumes nothing.
@@ -13,7 +13,7 @@ use lib.Seq.{set-getD}
 use Rattle.octets.proofs.Branch.{pick-both}
 use Rattle.octets.specs.Pick.{pick}
 use Rattle.octets.specs.Frame.{longest}
-use Rattle.peer.specs.Settings.{ap as accessPoint}
+use Rattle.peer.specs.Settings.{roleAnswers, roleAssociates}
 use Rattle.peer.specs.Record.{freeOf}
 use Rattle.peer.specs.Fit.{placeFits}
 use Rattle.peer.specs.Turn.{admit, discard}
@@ -40,8 +40,8 @@ use Rattle.table.specs.declared.rules.read.Reading.{Reading}
 use Rattle.table.specs.declared.rules.read.Reading.the-variants.{Refused, Discarded, Admitted, From}
 use Rattle.table.specs.declared.rules.answer.Answer.{Answer}
 use Rattle.table.specs.declared.rules.answer.Met.{Met}
-use Rattle.table.proofs.Order.OwnRecord.{all-at, find-at, wf-distinct, wf-fits, Alone, hear-alone, ask-alone}
-use Rattle.table.proofs.Order.NamedPeer.{coming-some, named-long, nobody}
+use Rattle.table.proofs.Order.OwnRecord.{all-at, find-at, wf-distinct, wf-fits, wf-settings, Alone, hear-alone, ask-alone}
+use Rattle.table.proofs.Order.NamedPeer.{Classes, coming-some, named-long, nobody, read-classed}
 
 -- what an event comes to: at a peer's place and record; and where it names none
 abbrev told : Met → List ℕ → List Record × Gets
@@ -73,17 +73,17 @@ module _ (s : Settings) where
   heardGets p (From peer group k h) out = turned (hearOf s p k group h) out
 
   abbrev nextOf : ℕ → Record → Coming → Record
-  nextOf i p (frame xs) = heardNext p (readOf (s .own) xs)
+  nextOf i p (frame xs) = heardNext p (readOf (s .own) (roleAssociates (s .role)) xs)
   nextOf i p (primitive q a c) = pick (eqb (refusal i p q a c) 0) (askOf s (aidOf (At i)) p unseen q c .peer) p
 
   abbrev getsOf : ℕ → Record → Coming → List ℕ → Gets
-  getsOf i p (frame xs) out = heardGets p (readOf (s .own) xs) out
+  getsOf i p (frame xs) out = heardGets p (readOf (s .own) (roleAssociates (s .role)) xs) out
   getsOf i p (primitive q a c) out =
       pick (eqb (refusal i p q a c) 0) (turned (askOf s (aidOf (At i)) p unseen q c) out) (settles (refusalAnswer (refusal i p q a c)) out)
 
   -- (freeOf stands for the record that is not looked at)
   abbrev aloneOf : Coming → List ℕ → Gets
-  aloneOf (frame xs) out = heardGets freeOf (readOf (s .own) xs) out
+  aloneOf (frame xs) out = heardGets freeOf (readOf (s .own) (roleAssociates (s .role)) xs) out
   aloneOf (primitive q a c) out = settles (refusalAnswer (pick (mayAsk s q a c) 5 3)) out
 
   abbrev pub next : ℕ → Record → Handed → Record
@@ -103,7 +103,7 @@ module _ (s : Settings) where
 
   -- the law `same`
   pub same-of : (i : ℕ) (p : Record) (c : Coming) → nextOf i p c .address ≡ p .address
-  same-of i p (frame xs) = same-read p (readOf (s .own) xs)
+  same-of i p (frame xs) = same-read p (readOf (s .own) (roleAssociates (s .role)) xs)
   same-of i p (primitive q a c) =
       pick-both (λ (x : Record). x .address ≡ p .address) (eqb (refusal i p q a c) 0) (ask-kept s p (aidOf (At i)) unseen q c) refl
 
@@ -112,8 +112,8 @@ module _ (s : Settings) where
   unfolding seatedOf
   seated t i turn out a = rw a
 
-  -- At an access point, in a well-formed table with a peer at place i: its events act on that place alone.
-  module _ (role : s .role ≡ accessPoint) (t : List Record) (w : wellFormed s t ≡ true) where
+  -- Where the role answers, in a well-formed table with a peer at place i: its events act on that place alone.
+  module _ (role : roleAnswers (s .role) ≡ true) (t : List Record) (w : wellFormed s t ≡ true) where
     others-unseen : othersOf s t ≡ unseen
     unfolding othersOf
     others-unseen = rw role
@@ -128,17 +128,17 @@ module _ (s : Settings) where
       fits : placeFits s p ≡ true
       fits = all-at (placeFits s) t i freeOf (wf-fits s t w) h
 
-      acts-frame : (xs : List ℕ) → readPeer (readOf (s .own) xs) ≡ some (p .address) → eqb (p .address) 0 ≡ false → told (receivedOf s t xs (length out)) out ≡ (set t i (nextOf i p (frame xs)), getsOf i p (frame xs) out)
+      acts-frame : (xs : List ℕ) → readPeer (readOf (s .own) (roleAssociates (s .role)) xs) ≡ some (p .address) → eqb (p .address) 0 ≡ false → told (receivedOf s t xs (length out)) out ≡ (set t i (nextOf i p (frame xs)), getsOf i p (frame xs) out)
       unfolding receivedOf heardFrom
-      acts-frame xs k z = rw (long, w) (go (readOf (s .own) xs) k)
+      acts-frame xs k z = rw (long, w) (go (readOf (s .own) (roleAssociates (s .role)) xs) (read-classed (s .own) (roleAssociates (s .role)) xs) k)
         where
-          go : (r : Reading) → readPeer r ≡ some (p .address) → told (heardAt s t (addressesOf t) r) out ≡ (set t i (heardNext p r), heardGets p r out)
-          go (Refused n) y = nobody y
-          go Discarded y = nobody y
-          go Admitted y = nobody y
-          go (From peer group k h) y =
+          go : (r : Reading) → Classes r → readPeer r ≡ some (p .address) → told (heardAt s t (addressesOf t) r) out ≡ (set t i (heardNext p r), heardGets p r out)
+          go (Refused n) b y = nobody y
+          go Discarded b y = nobody y
+          go Admitted b y = nobody y
+          go (From peer group k h) b y =
               let e : peer ≡ p .address = cc in
-              rw (e, found z) (seated t i (hearOf s p k group h) out (hear-alone s p role fits k group h))
+              rw (e, found z) (seated t i (hearOf s p k group h) out (hear-alone s p (wf-settings s t w) role fits k group h (λ off. b)))
 
       acts-primitive : (q a c : ℕ) → a ≡ p .address → eqb (p .address) 0 ≡ false → told (askedOf s t q a c (length out)) out ≡ (set t i (nextOf i p (primitive q a c)), getsOf i p (primitive q a c) out)
       unfolding askedOf askedAt unless firstOf noPlace refusedOf settledOf
@@ -161,9 +161,9 @@ module _ (s : Settings) where
       unfolding askedOf unless firstOf refusedOf settledOf
       short-primitive q a c b = rw b
 
-      stays-frame : (xs : List ℕ) → ltb (length out) longest ≡ false → readPeer (readOf (s .own) xs) ≡ none → told (receivedOf s t xs (length out)) out ≡ (t, aloneOf (frame xs) out)
+      stays-frame : (xs : List ℕ) → ltb (length out) longest ≡ false → readPeer (readOf (s .own) (roleAssociates (s .role)) xs) ≡ none → told (receivedOf s t xs (length out)) out ≡ (t, aloneOf (frame xs) out)
       unfolding receivedOf refusedOf settledOf
-      stays-frame xs b k = rw (b, w) (go (readOf (s .own) xs) k)
+      stays-frame xs b k = rw (b, w) (go (readOf (s .own) (roleAssociates (s .role)) xs) k)
         where
           go : (r : Reading) → readPeer r ≡ none → told (heardAt s t (addressesOf t) r) out ≡ (t, heardGets freeOf r out)
           go (Refused n) y = refl
@@ -180,7 +180,7 @@ module _ (s : Settings) where
           go true x false y z = rw (x, y)
           go false x l y z = rw x
 
-  module _ (role : s .role ≡ accessPoint) where
+  module _ (role : roleAnswers (s .role) ≡ true) where
     -- the law `acts`
     pub acts : (t : List Record) (e : Handed) (i : ℕ) → wellFormed s t ≡ true → i < length t → peerNamed s e ≡ some (addressOf (getD t i freeOf)) → happens s t e ≡ (set t i (next i (getD t i freeOf) e), said i (getD t i freeOf) e)
     unfolding happens steppedOf

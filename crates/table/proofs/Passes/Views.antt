@@ -5,12 +5,12 @@ use mathlib.Core.Bool.{Bool, true, _&&_, _||_}
 use mathlib.Core.List.{List, _∷_}
 use Prim.Native.Nat.{ℕ, _+_, _-_, _<_, _≤_}
 use native.Mathlib.Omega.{arith}
-use lib.Dec.{eqb, leb}
+use lib.Dec.{leb}
 use lib.ListN.{length, drop, getD, set, length-map, length-set, List·getD-map}
 use lib.Seq.{drop-set-lt, getD-set-same}
 use Rattle.peer.specs.Fit.{placeFits}
 use Rattle.peer.specs.Record.{associates, freeOf, isJoined}
-use Rattle.peer.specs.Settings.{ap as access-point, settingsFit}
+use Rattle.peer.specs.Settings.{roleAnswers, settingsFit}
 use Rattle.peer.specs.declared.settings.Settings.{Settings}
 use Rattle.peer.specs.declared.record.Record.{Record}
 use Rattle.octets.specs.Pick.{pick}
@@ -26,7 +26,7 @@ abbrev pub Sees : Settings → List Record → View → Type 0
 Sees s t v = (v .fit ≡ allOf (placeFits s) t) × (v .crowd ≡ crowdOf t) × (v .associated ≡ associatedOf t) × (v .addresses ≡ addressesOf t)
 
 pub well-of : (s : Settings) (t : List Record) (v : View) → Sees s t v → (b : Bool)
-    → b ≡ (settingsFit s && (v .fit && (distinctOf (v .addresses) && (eqb (s .role) access-point || (leb (v .crowd .joined) 1 && leb (v .crowd .associating) 1))))) → b ≡ wellFormed s t
+    → b ≡ (settingsFit s && (v .fit && (distinctOf (v .addresses) && (roleAnswers (s .role) || (leb (v .crowd .joined) 1 && leb (v .crowd .associating) 1))))) → b ≡ wellFormed s t
 unfolding wellFormed sparseOf
 well-of s t v h b e = e ∙ rw (h .0, h .1, h .3)
 

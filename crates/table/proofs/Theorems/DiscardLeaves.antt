@@ -17,6 +17,7 @@ use Rattle.peer.specs.Record.{freshOf, freeOf, underWay}
 use Rattle.peer.specs.Authentication.{fullOf}
 use Rattle.peer.specs.Hear.{hearOf}
 use Rattle.peer.proofs.LawsOfUse.{discard-turn}
+use Rattle.peer.specs.Settings.{roleAssociates}
 use Rattle.peer.specs.declared.settings.Settings.{Settings}
 use Rattle.peer.specs.declared.record.Record.{Record}
 use Rattle.table.specs.Places.{onFound, findOf, addressesOf}
@@ -73,14 +74,14 @@ pub discard-leaves : (s : Settings) (t : List Record) (xs : List ℕ) (n : ℕ) 
 unfolding Leaves receivedOf refusedOf settledOf
 discard-leaves s t xs n =
     pick-both (Leaves t) (ltb n longest) (λ v. refl)
-    (pick-both (Leaves t) (not (wellFormed s t)) (λ v. refl) (read-leaves s t (readOf (s .own) xs)))
+    (pick-both (Leaves t) (not (wellFormed s t)) (λ v. refl) (read-leaves s t (readOf (s .own) (roleAssociates (s .role)) xs)))
 
 -- "CTS and ACK: admit, done, no peer": a frame without Address 2 leaves the table.
-pub bare-leaves : (s : Settings) (t : List Record) (xs : List ℕ) (n : ℕ) → readOf (s .own) xs ≡ Admitted → receivedOf s t xs n .table ≡ t
+pub bare-leaves : (s : Settings) (t : List Record) (xs : List ℕ) (n : ℕ) → readOf (s .own) (roleAssociates (s .role)) xs ≡ Admitted → receivedOf s t xs n .table ≡ t
 unfolding receivedOf refusedOf settledOf
 bare-leaves s t xs n e = tables (ltb n longest) (not (wellFormed s t))
   where
-    tables : (b d : Bool) → pick b (refusedOf t 1) (pick d (refusedOf t 2) (heardAt s t (addressesOf t) (readOf (s .own) xs))) .table ≡ t
+    tables : (b d : Bool) → pick b (refusedOf t 1) (pick d (refusedOf t 2) (heardAt s t (addressesOf t) (readOf (s .own) (roleAssociates (s .role)) xs))) .table ≡ t
     tables true d = refl
     tables false true = refl
     tables false false = rw e

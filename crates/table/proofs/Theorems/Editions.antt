@@ -13,11 +13,11 @@ use Rattle.octets.specs.Address.{validOf}
 use Rattle.octets.proofs.Branch.{pick-both}
 use Rattle.octets.specs.declared.heard.Kind.the-variants.{Reassociation}
 use Rattle.peer.specs.Ask.{askOf, declinedMove, declinedOf, respondOf}
-use Rattle.peer.specs.Fit.{askedFits, holdFits, placeFits, queryAllowed, recordFits, stands}
+use Rattle.peer.specs.Fit.{askedFits, highestState, holdFits, placeFits, queryAllowed, recordFits, stands}
 use Rattle.peer.specs.Moves.{dsNone}
 use Rattle.peer.specs.Record.{changedOf, freeOf, freshOf, isFree, isJoined}
 use Rattle.peer.specs.Refuse.{codeAllowed, conflictOf, heldOf, mismatchOf, one, roleAllowed}
-use Rattle.peer.specs.Settings.{queryTimesFit, settingsFit, timeFits}
+use Rattle.peer.specs.Settings.{networkFits, queryTimesFit, roleAnswers, roleAsks, roleAssociates, settingsFit, timeFits}
 use Rattle.peer.specs.Turn.{endedOf, turnOf}
 use Rattle.peer.proofs.Editions.{declines, rejects, second-joined, second-protected, second-silent}
 use Rattle.peer.specs.declared.settings.Settings.{Settings}
@@ -103,7 +103,7 @@ module _ (s : Settings) (t : List Record) (q a c : ℕ) (r : rejects q c ≡ tru
 
 abbrev pub site : ℕ → ℕ → ℕ → Settings
 site role edition protection =
-    record { own = 2; authentication = 100; association = 100; role = role; rsna = 0; edition = edition; protection = protection; retry = 201; maximum = 1000 }
+    record { own = 2; network = 0; authentication = 100; association = 100; role = role; rsna = 0; edition = edition; protection = protection; retry = 201; maximum = 1000 }
 
 abbrev asking : Record
 asking = record { address = 4; state = 4; exchange = Asked Reassociation; left = 0; hold = 0; query = query.None; identifier = 0 }
@@ -118,6 +118,6 @@ still-joined = joined-kept (site 1 2 0) (asking ∷ []) 8 4 1 refl refl [] 37
 -- (it is done, and not refused)
 not-refused :
     (stepOf (site 1 2 0) (asking ∷ []) (event.Ask 8 4 1) [] 37 .answer .refusal ≡ 0) × (stepOf (site 1 2 0) (asking ∷ []) (event.Ask 8 4 1) [] 37 .answer .state ≡ 3)
-unfolding steppedOf askedOf unless firstOf wellFormed settingsFit queryTimesFit timeFits validOf allTails placeFits isFree recordFits queryAllowed holdFits askedFits stands aloneIn sparseOf
+unfolding steppedOf askedOf unless firstOf wellFormed settingsFit queryTimesFit networkFits roleAnswers roleAsks roleAssociates timeFits validOf allTails placeFits isFree recordFits highestState queryAllowed holdFits askedFits stands aloneIn sparseOf
     askedAt mayAsk codeAllowed roleAllowed conflictOf mismatchOf heldOf noPlace firstFrom askOf respondOf declinedOf declinedMove turnOf endedOf changedOf seatedOf
 not-refused = (refl, refl)

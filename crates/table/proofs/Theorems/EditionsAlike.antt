@@ -1,7 +1,7 @@
 -- 02, K2: "What both editions share is proved once over the edition." Of the whole table: the edition and the flag are looked at for a rejection
--- of ours and (02, K5) for a (re)association request of a peer in State 4, and for nothing else, so at a station for nothing at all.
+-- of ours and (02, K5) for a (re)association request of a peer in State 4, and for nothing else; in a role that asks, for nothing at all.
 --     steps-alike, written-alike  every event but these two: the same table, answer and octets in any edition
---     station-alike               at a station every event
+--     asking-alike                in a role that asks every event
 -- Assumes nothing.
 use Prim.Native.Nat.{ℕ, _+_}
 use mathlib.Core.Path.{_≡_, refl}
@@ -9,14 +9,14 @@ use mathlib.Core.Bool.{Bool, true, false}
 use mathlib.Core.List.{List, [], _∷_, map}
 use lib.Dec.{eqb}
 use lib.ListN.{length}
-use borrow.Author.Tests.{eqb-true}
+use borrow.Author.Tests.{eqb-true, not-true}
 use Rattle.octets.proofs.Branch.{by-bool}
 use Rattle.octets.specs.declared.class.FrameClass.{FrameClass}
 use Rattle.octets.specs.declared.heard.Heard.{Heard}
 use Rattle.peer.specs.Fit.{placeFits, queryAllowed, queryFits, queryStands, recordFits, runningFits}
 use Rattle.peer.specs.Refuse.{one, roleAllowed}
 use Rattle.peer.specs.Hear.{hearOf}
-use Rattle.peer.specs.Settings.{queryTimesFit, settingsFit, station}
+use Rattle.peer.specs.Settings.{ap, networkFits, queryTimesFit, roleAsks, roleAssociates, settingsFit}
 use Rattle.peer.proofs.Editions.{rejects}
 use Rattle.peer.proofs.EditionsAlike.{asks-alike, full-alike, hears-alike, inEdition, mayBeForged, station-hears-alike, ticks-alike}
 use Rattle.peer.proofs.Fits.{both}
@@ -50,15 +50,21 @@ forgedIn t (From peer group k h) = mayBeForged (peerOf t (findOf (addressesOf t)
 
 -- Such a frame; or, "when an AP answers anything but success", the event of primitive 7 or 8 with a status other than 0.
 abbrev pub editionAsked : Settings → List Record → Event → List ℕ → Bool
-editionAsked s t event.Frame xs = forgedIn t (readOf (s .own) xs)
+editionAsked s t event.Frame xs = forgedIn t (readOf (s .own) (roleAssociates (s .role)) xs)
 editionAsked s t (event.Ask q a c) xs = rejects q c
 editionAsked s t (event.Clock d) xs = false
 
+-- who asks is no AP
+no-ap : (role : ℕ) → roleAsks role ≡ true → eqb role ap ≡ false
+unfolding roleAsks
+no-ap role asks = not-true (eqb role ap) asks
+
 -- "primitive not for this role", 5, and the first that applies
-not-for-stations : (q c : ℕ) → rejects q c ≡ true → roleAllowed q station ≡ false
+not-for-askers : (role q c : ℕ) → roleAsks role ≡ true → rejects q c ≡ true → roleAllowed q role ≡ false
 unfolding roleAllowed
-not-for-stations q c r =
-    by-bool (eqb q 7) (λ e. rw (eqb-true q 7 e)) (λ e. rw (eqb-true q 8 (rw e at (both (one q 7 8) _ r .0))))
+not-for-askers role q c asks r =
+    let no = no-ap role asks in
+    by-bool (eqb q 7) (λ e. rw (eqb-true q 7 e, no)) (λ e. rw (eqb-true q 8 (rw e at (both (one q 7 8) _ r .0)), no))
 
 barred :
     (m : Bool) (rest others : List (ℕ × Bool)) (t : List Record) (x y : Met)
@@ -106,7 +112,7 @@ module _ (s : Settings) (edition protection : ℕ) (fit : settingsFit (inEdition
       turn-alike t peer group k h (hears-alike s edition protection (peerOf t (findOf (addressesOf t) peer) peer) k group h e)
 
   received-alike :
-      (t : List Record) (xs : List ℕ) (n : ℕ) → heardAt other t (addressesOf t) (readOf (s .own) xs) ≡ heardAt s t (addressesOf t) (readOf (s .own) xs)
+      (t : List Record) (xs : List ℕ) (n : ℕ) → heardAt other t (addressesOf t) (readOf (s .own) (roleAssociates (s .role)) xs) ≡ heardAt s t (addressesOf t) (readOf (s .own) (roleAssociates (s .role)) xs)
       → receivedOf other t xs n ≡ receivedOf s t xs n
   unfolding inEdition receivedOf
   received-alike t xs n e = rw (well-alike t, e)
@@ -133,42 +139,47 @@ module _ (s : Settings) (edition protection : ℕ) (fit : settingsFit (inEdition
   -- No event looks at the edition or the flag but these two: neither the table, nor the answer, nor what is written.
   pub steps-alike :
       (t : List Record) (e : Event) (xs : List ℕ) (n : ℕ) → editionAsked s t e xs ≡ false → stepOf other t e xs n ≡ stepOf s t e xs n
-  steps-alike t event.Frame xs n r = rw (received-alike t xs n (read-alike t (readOf (s .own) xs) r))
+  steps-alike t event.Frame xs n r = rw (received-alike t xs n (read-alike t (readOf (s .own) (roleAssociates (s .role)) xs) r))
   steps-alike t (event.Ask q a c) xs n r = rw (asked-alike t q a c n r)
   steps-alike t (event.Clock d) xs n r = passed-alike t d n
 
   pub written-alike :
       (t : List Record) (e : Event) (xs l : List ℕ) → editionAsked s t e xs ≡ false → stepIn other t e xs l ≡ stepIn s t e xs l
   unfolding passedIn
-  written-alike t event.Frame xs l r = rw (received-alike t xs (length l) (read-alike t (readOf (s .own) xs) r))
+  written-alike t event.Frame xs l r = rw (received-alike t xs (length l) (read-alike t (readOf (s .own) (roleAssociates (s .role)) xs) r))
   written-alike t (event.Ask q a c) xs l r = rw (asked-alike t q a c (length l) r)
   written-alike t (event.Clock d) xs l r = rw (well-alike t, reports-alike d 0 t)
 
-  -- A station answers no request, and refuses primitives 7 and 8, so there it holds of every event.
-  station-read : s .role ≡ station → (t : List Record) (r : Reading) → heardAt other t (addressesOf t) r ≡ heardAt s t (addressesOf t) r
-  station-read role t (Refused n) = refl
-  station-read role t Discarded = refl
-  station-read role t Admitted = refl
-  station-read role t (From peer group k h) =
-      turn-alike t peer group k h (station-hears-alike s edition protection (peerOf t (findOf (addressesOf t) peer) peer) (rw role) k group h)
+  -- Who asks answers no (re)association request, and refuses primitives 7 and 8, so there it holds of every event.
+  module _ (asks : roleAsks (s .role) ≡ true) where
+    asking-read : (t : List Record) (r : Reading) → heardAt other t (addressesOf t) r ≡ heardAt s t (addressesOf t) r
+    asking-read t (Refused n) = refl
+    asking-read t Discarded = refl
+    asking-read t Admitted = refl
+    asking-read t (From peer group k h) =
+        turn-alike t peer group k h (station-hears-alike s edition protection (peerOf t (findOf (addressesOf t) peer) peer) (no-ap (s .role) asks) k group h)
 
-  station-asked : s .role ≡ station → (t : List Record) (q a c n : ℕ) → askedOf other t q a c n ≡ askedOf s t q a c n
-  unfolding inEdition askedOf askedAt othersOf mayAsk
-  station-asked role t q a c n = by-bool (rejects q c) refused (asked-alike t q a c n)
-    where
-      refused : rejects q c ≡ true → askedOf other t q a c n ≡ askedOf s t q a c n
-      refused r =
-          let away : roleAllowed q (s .role) ≡ false = rw role (not-for-stations q c r) in
-          let x : askedAt other t (addressesOf t) q a c ≡ askedAt s t (addressesOf t) q a c = rw away (barred _ _ _ t _ _) in
-          rw (well-alike t, x)
+    asking-asked : (t : List Record) (q a c n : ℕ) → askedOf other t q a c n ≡ askedOf s t q a c n
+    unfolding inEdition askedOf askedAt othersOf mayAsk
+    asking-asked t q a c n = by-bool (rejects q c) refused (asked-alike t q a c n)
+      where
+        refused : rejects q c ≡ true → askedOf other t q a c n ≡ askedOf s t q a c n
+        refused r =
+            let away = not-for-askers (s .role) q c asks r in
+            let x : askedAt other t (addressesOf t) q a c ≡ askedAt s t (addressesOf t) q a c = rw away (barred _ _ _ t _ _) in
+            rw (well-alike t, x)
 
-  pub station-alike : s .role ≡ station → (t : List Record) (e : Event) (xs : List ℕ) (n : ℕ) → stepOf other t e xs n ≡ stepOf s t e xs n
-  station-alike role t event.Frame xs n = rw (received-alike t xs n (station-read role t (readOf (s .own) xs)))
-  station-alike role t (event.Ask q a c) xs n = rw (station-asked role t q a c n)
-  station-alike role t (event.Clock d) xs n = steps-alike t (event.Clock d) xs n refl
+    pub asking-alike : (t : List Record) (e : Event) (xs : List ℕ) (n : ℕ) → stepOf other t e xs n ≡ stepOf s t e xs n
+    asking-alike t event.Frame xs n = rw (received-alike t xs n (asking-read t (readOf (s .own) (roleAssociates (s .role)) xs)))
+    asking-alike t (event.Ask q a c) xs n = rw (asking-asked t q a c n)
+    asking-alike t (event.Clock d) xs n = steps-alike t (event.Clock d) xs n refl
 
--- ---- For one: a station in the two editions, asked for what it refuses.
+-- ---- For one: a station in the two editions, and a peer of an ad hoc network, asked for what they refuse.
 
 same-at-station : stepOf (inEdition (site 2 1 0) 2 1) [] (event.Ask 7 4 1) [] 37 ≡ stepOf (site 2 1 0) [] (event.Ask 7 4 1) [] 37
-unfolding inEdition settingsFit queryTimesFit
-same-at-station = station-alike (site 2 1 0) 2 1 refl refl [] (event.Ask 7 4 1) [] 37
+unfolding inEdition settingsFit queryTimesFit networkFits roleAsks roleAssociates
+same-at-station = asking-alike (site 2 1 0) 2 1 refl refl [] (event.Ask 7 4 1) [] 37
+
+same-ad-hoc : stepOf (inEdition (site 3 1 0) 2 1) [] (event.Ask 7 4 1) [] 37 ≡ stepOf (site 3 1 0) [] (event.Ask 7 4 1) [] 37
+unfolding inEdition settingsFit queryTimesFit networkFits roleAsks roleAssociates
+same-ad-hoc = asking-alike (site 3 1 0) 2 1 refl refl [] (event.Ask 7 4 1) [] 37

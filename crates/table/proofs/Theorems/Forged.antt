@@ -12,9 +12,10 @@ use native.Mathlib.Omega.{arith}
 use lib.Dec.{eqb, ltb}
 use lib.ListN.{getD, length, replicate, set}
 use lib.Seq.{getD-set-same, set-getD}
+use borrow.Author.Tests.{eq-eqb}
 use Rattle.octets.proofs.Branch.{pick-both}
 use Rattle.octets.specs.Address.{groupOf, validOf}
-use Rattle.octets.specs.Class.{classOf, isPublicAction}
+use Rattle.octets.specs.Class.{classIn, classOf, isPublicAction}
 use Rattle.octets.specs.Element.{brokenOf, isResponse}
 use Rattle.octets.specs.Frame.{longest}
 use Rattle.octets.specs.Heard.{heardOf}
@@ -24,14 +25,16 @@ use Rattle.octets.specs.declared.class.FrameClass.{FrameClass}
 use Rattle.octets.specs.declared.heard.Heard.the-variants as heard
 use Rattle.octets.specs.declared.heard.Kind.the-variants as kind
 use Rattle.octets.specs.declared.heard.Kind.{Kind}
+use Rattle.peer.proofs.Fits.{clash}
+use Rattle.peer.proofs.Roles.{ap-answers, ap-associates}
 use Rattle.peer.proofs.Queries.{Guarded, Stays, Unmoved, guarded, joined, one-passes, site, unmoved}
 use Rattle.peer.specs.Filter.{passesOf}
-use Rattle.peer.specs.Fit.{holdFits, placeFits, queryAllowed, queryStands, recordFits}
+use Rattle.peer.specs.Fit.{highestState, holdFits, placeFits, queryAllowed, queryStands, recordFits}
 use Rattle.peer.specs.Hear.{hearOf}
 use Rattle.peer.specs.Moves.{dsNone}
 use Rattle.peer.specs.Query.{isTimedOut}
 use Rattle.peer.specs.Record.{freeOf, freshOf, isFree, queriedOf}
-use Rattle.peer.specs.Settings.{queryTimesFit, settingsFit, timeFits}
+use Rattle.peer.specs.Settings.{ap, networkFits, queryTimesFit, roleAnswers, roleAsks, roleAssociates, settingsFit, timeFits}
 use Rattle.peer.specs.Turn.{indicationOf}
 use Rattle.peer.specs.declared.query.Query.the-variants as query
 use Rattle.peer.specs.declared.query.Query.{Query}
@@ -51,10 +54,10 @@ use Rattle.table.specs.declared.rules.event.Event.the-variants as event
 use Rattle.table.specs.declared.rules.read.Reading.the-variants.{From}
 use Rattle.table.specs.declared.rules.seat.Found.the-variants.{At, Nothing}
 use Rattle.table.specs.declared.rules.seat.Found.{Found}
-use Rattle.table.proofs.Order.OwnRecord.{all-at, find-at, hear-alone, wf-distinct, wf-fits}
+use Rattle.table.proofs.Order.OwnRecord.{all-at, find-at, hear-alone, wf-distinct, wf-fits, wf-settings}
 use Rattle.table.proofs.Passes.Lists.{get-map, map-set}
 use Rattle.table.proofs.Theorems.PlacesKept.{place-kept}
-use Rattle.table.proofs.Theorems.StepKeeps.{step-keeps-at-ap}
+use Rattle.table.proofs.Theorems.StepKeeps.{step-keeps-answering}
 
 -- A record without its query.
 abbrev pub core : Record → Record
@@ -82,7 +85,7 @@ module _ (s : Settings) (t : List Record) (a : ℕ) (group : Bool) (k : FrameCla
 
   -- a step whose turn moves nothing
   calm-step :
-      (xs : List ℕ) (n : ℕ) → readOf (s .own) xs ≡ From a group k (heard.Request kind current)
+      (xs : List ℕ) (n : ℕ) → readOf (s .own) (roleAssociates (s .role)) xs ≡ From a group k (heard.Request kind current)
       → (i : ℕ) → findOf (addressesOf t) a ≡ At i → Unmoved (getD t i freeOf) (turnAt i)
       → Calm t (stepOf s t event.Frame xs n)
   unfolding steppedOf receivedOf refusedOf settledOf heardFrom seatedOf
@@ -96,7 +99,7 @@ module _ (s : Settings) (t : List Record) (a : ℕ) (group : Bool) (k : FrameCla
       )))
 
   pub forged-moves-nothing :
-      Guarded s → (xs : List ℕ) (n : ℕ) → readOf (s .own) xs ≡ From a group k (heard.Request kind current)
+      Guarded s → (xs : List ℕ) (n : ℕ) → readOf (s .own) (roleAssociates (s .role)) xs ≡ From a group k (heard.Request kind current)
       → peerOf t (findOf (addressesOf t) a) a .state ≡ 4 → isTimedOut (peerOf t (findOf (addressesOf t) a) a .query) ≡ false
       → Calm t (stepOf s t event.Frame xs n)
   unfolding freshOf
@@ -112,8 +115,14 @@ module _ (s : Settings) (g : Guarded s) (t : List Record) (w : wellFormed s t �
   abbrev named : ℕ
   named = getD t i freeOf .address
 
+  at-ap : eqb (s .role) ap ≡ true
+  at-ap = eq-eqb _ _ (g .role)
+
+  answers : roleAnswers (s .role) ≡ true
+  answers = ap-answers (s .role) at-ap
+
   -- "After kind 5 the next request passes": one to our own address, of a class that passes, in a buffer that takes a frame
-  module _ (k : FrameClass) (kind : Kind) (current : ℕ) (through : passesOf k 4 ≡ true) (xs : List ℕ) (n : ℕ) (room : ltb n longest ≡ false) (reads : readOf (s .own) xs ≡ From named false k (heard.Request kind current)) where
+  module _ (k : FrameClass) (kind : Kind) (current : ℕ) (through : passesOf (s .role) k 4 ≡ true) (xs : List ℕ) (n : ℕ) (room : ltb n longest ≡ false) (reads : readOf (s .own) (roleAssociates (s .role)) xs ≡ From named false k (heard.Request kind current)) where
     abbrev turn : Turn
     turn = hearOf s (getD t i freeOf) k false (heard.Request kind current)
 
@@ -126,7 +135,7 @@ module _ (s : Settings) (g : Guarded s) (t : List Record) (w : wellFormed s t �
     after-is : after .table ≡ set t i (turn .peer)
     unfolding steppedOf receivedOf heardFrom seatedOf
     after-is =
-        let alone = hear-alone s (getD t i freeOf) (g .role) (all-at (λ p. placeFits s p) t i freeOf (wf-fits s t w) (rw l below)) k false (heard.Request kind current) in
+        let alone = hear-alone s (getD t i freeOf) (wf-settings s t w) answers (all-at (λ p. placeFits s p) t i freeOf (wf-fits s t w) (rw l below)) k false (heard.Request kind current) (λ off. clash (ap-associates (s .role) at-ap) off) in
         rw (room, w, reads, found, alone)
 
     pub let-in : after .answer .notice ≡ indicationOf kind
@@ -135,10 +144,10 @@ module _ (s : Settings) (g : Guarded s) (t : List Record) (w : wellFormed s t �
 
     -- "and clears the mark"
     pub then-none :
-        (group : Bool) (k′ : FrameClass) (kind′ : Kind) (current′ : ℕ) (xs′ : List ℕ) (n′ : ℕ) → readOf (s .own) xs′ ≡ From named group k′ (heard.Request kind′ current′)
+        (group : Bool) (k′ : FrameClass) (kind′ : Kind) (current′ : ℕ) (xs′ : List ℕ) (n′ : ℕ) → readOf (s .own) (roleAssociates (s .role)) xs′ ≡ From named group k′ (heard.Request kind′ current′)
         → Calm (after .table) (stepOf s (after .table) event.Frame xs′ n′)
     then-none group k′ kind′ current′ xs′ n′ reads′ =
-        let well = step-keeps-at-ap s (g .role) t w l event.Frame xs n in
+        let well = step-keeps-answering s answers t w l event.Frame xs n in
         let same : getD (after .table) i freeOf .address ≡ named = place-kept s t event.Frame xs n refl i some in
         let again = find-at (after .table) i (wf-distinct s (after .table) (well .0)) (rw (well .1) below) (rw same some) in
         let is : getD (after .table) i freeOf ≡ turn .peer = rw after-is (getD-set-same t i (turn .peer) freeOf (rw l below)) in
@@ -154,8 +163,8 @@ abbrev pub request : List ℕ
 request =
     0 ∷ 0 ∷ 0 ∷ 0 ∷ 2 ∷ 0 ∷ 0 ∷ 0 ∷ 0 ∷ 0 ∷ 4 ∷ 0 ∷ 0 ∷ 0 ∷ 0 ∷ 0 ∷ 2 ∷ 0 ∷ 0 ∷ 0 ∷ 0 ∷ 0 ∷ 0 ∷ 0 ∷ 0x01 ∷ 0 ∷ 10 ∷ 0 ∷ []
 
-reads-request : readOf (site .own) request ≡ From 4 false class.Two (heard.Request kind.Association 0)
-unfolding validOf groupOf classOf isPublicAction isResponse brokenOf heardOf leastManagement isBare leastOf shapeOf forUs readFrom readFull readOf
+reads-request : readOf (site .own) (roleAssociates (site .role)) request ≡ From 4 false class.Two (heard.Request kind.Association 0)
+unfolding validOf groupOf roleAssociates classIn classOf isPublicAction isResponse brokenOf heardOf leastManagement isBare leastOf shapeOf forUs readFrom readFull readOf
 reads-request = refl
 
 -- without a query, and with one that runs
@@ -169,14 +178,16 @@ second-calm = forged-moves-nothing site (with (query.Running 3 false)) 4 false c
 
 -- with the mark: it is let in
 marked-well : wellFormed site (with query.TimedOut) ≡ true
-unfolding wellFormed settingsFit queryTimesFit timeFits validOf allTails placeFits isFree recordFits holdFits queryAllowed queryStands aloneIn sparseOf
+unfolding wellFormed settingsFit queryTimesFit networkFits roleAnswers roleAsks roleAssociates highestState timeFits validOf allTails placeFits isFree recordFits holdFits queryAllowed queryStands aloneIn sparseOf
 marked-well = refl
 
 third-let-in : stepOf site (with query.TimedOut) event.Frame request 37 .answer .notice ≡ 5
+unfolding roleAssociates
 third-let-in =
     let-in site guarded (with query.TimedOut) marked-well refl 0 (omega arith) refl refl refl class.Two kind.Association 0 refl request 37 refl reads-request
 
 fourth-calm : Calm (stepOf site (with query.TimedOut) event.Frame request 37 .table) (stepOf site (stepOf site (with query.TimedOut) event.Frame request 37 .table) event.Frame request 37)
+unfolding roleAssociates
 fourth-calm =
     then-none site guarded (with query.TimedOut) marked-well refl 0 (omega arith) refl refl refl class.Two kind.Association 0 refl request 37 refl reads-request
     false class.Two kind.Association 0 request 37 reads-request

@@ -2,7 +2,7 @@
 -- Assumes nothing.
 use Prim.Native.Nat.{ℕ}
 use mathlib.Core.Path.{_≡_, refl}
-use mathlib.Core.Bool.{not, _||_}
+use mathlib.Core.Bool.{Bool, not, _||_}
 use mathlib.Core.List.{List}
 use lib.Dec.{ltb, eqb}
 use lib.ListN.{length}
@@ -17,6 +17,7 @@ use Rattle.octets.proofs.Branch.{by-bool}
 use Rattle.peer.specs.Authentication.{fullOf}
 use Rattle.peer.specs.Hear.{hearOf}
 use Rattle.peer.specs.Ask.{askOf}
+use Rattle.peer.specs.Settings.{roleAssociates}
 use Rattle.peer.specs.declared.settings.Settings.{Settings}
 use Rattle.peer.specs.declared.record.Record.{Record}
 use Rattle.peer.specs.declared.turn.Turn.{Turn}
@@ -72,9 +73,9 @@ heard-gives s t (From peer group k h) =
     let at = findOf (addressesOf t) peer in
     turn-gives t at (findOf (addressesOf t) 0) (hearOf s (peerOf t at peer) k group h) (fullOf s (peerOf t at peer))
 
-read-refusal : (own : ℕ) (xs : List ℕ) → readRefusal (readOf own xs) ≡ firstOf (readRefusals own xs)
+read-refusal : (own : ℕ) (infrastructure : Bool) (xs : List ℕ) → readRefusal (readOf own infrastructure xs) ≡ firstOf (readRefusals own xs)
 unfolding readOf shapeOf readBare readFull readFrom firstOf
-read-refusal own xs =
+read-refusal own infrastructure xs =
     by-bool (ltb (length xs) 10 || ltb 4096 (length xs)) (λ a. simp a) (λ a.
     by-bool (classless (classOf xs)) (λ b. simp (a, b)) (λ b.
     by-bool (ltb (length xs) (leastOf (field 1 0 xs))) (λ c. simp (a, b, c)) (λ c.
@@ -88,7 +89,7 @@ pub received-gives : (s : Settings) (t : List Record) (xs : List ℕ) (n : ℕ) 
 unfolding receivedOf firstOf
 received-gives s t xs n =
     by-bool (ltb n longest) (λ a. simp a refuses) (λ a.
-    by-bool (wellFormed s t) (λ b. simp (a, b) (rw (read-refusal (s .own) xs) at (heard-gives s t (readOf (s .own) xs)))) (λ b. simp (a, b) refuses))
+    by-bool (wellFormed s t) (λ b. simp (a, b) (rw (read-refusal (s .own) (roleAssociates (s .role)) xs) at (heard-gives s t (readOf (s .own) (roleAssociates (s .role)) xs)))) (λ b. simp (a, b) refuses))
 
 asked-at-gives : (s : Settings) (t : List Record) (ads : List ℕ) (q a c : ℕ) → Gives t (firstOf (ruledAt s t ads q a c)) (askedAt s t ads q a c)
 unfolding askedAt

@@ -5,20 +5,20 @@ use mathlib.Core.Path.{_≡_, refl}
 use mathlib.Core.Bool.{true}
 use Rattle.octets.specs.Address.{validOf, groupOf}
 use Rattle.octets.specs.Field.{octets}
-use Rattle.octets.specs.Class.{isPublicAction, classOf}
+use Rattle.octets.specs.Class.{classIn, classOf, isPublicAction}
 use Rattle.octets.specs.Element.{brokenOf, ends, isResponse, walk}
 use Rattle.octets.specs.Heard.{authenticationOf, responseOf, heardOf}
 use Rattle.octets.specs.Shape.{leastManagement, isBare, leastOf, shapeOf}
 use Rattle.octets.specs.Frame.{capabilityOf, aidField, headOf, bodyOf, bytesOf, writtenOf, lengthOf}
-use Rattle.peer.specs.Settings.{queryTimesFit, settingsFit, timeFits}
+use Rattle.peer.specs.Settings.{networkFits, queryTimesFit, roleAnswers, roleAsks, roleAssociates, settingsFit, timeFits}
 use Rattle.peer.specs.Query.{queryIn}
 use Rattle.peer.specs.Record.{isJoined, associates, freshOf, isFree, changedOf, queriedOf}
-use Rattle.peer.specs.Fit.{stands, askedFits, awaitingFits, sentFits, holdFits, queryAllowed, recordFits, placeFits}
+use Rattle.peer.specs.Fit.{stands, askedFits, awaitingFits, sentFits, highestState, holdFits, queryAllowed, recordFits, placeFits}
 use Rattle.peer.specs.Moves.{dsOf}
-use Rattle.peer.specs.Reply.{apAddress, sendOf, authenticationTo, disassociationTo, requestTo, responseTo}
+use Rattle.peer.specs.Reply.{networkAddress, sendOf, authenticationTo, disassociationTo, requestTo, responseTo}
 use Rattle.peer.specs.Turn.{turnOf, endedOf, begunOf, repliedOf, stillOf}
 use Rattle.peer.specs.Filter.{barredOf}
-use Rattle.peer.specs.Authentication.{requestedOf, authenticationAtAp, answeredMove, authenticationAtStation, authenticationHeard}
+use Rattle.peer.specs.Authentication.{requestedOf, authenticationAsked, answeredMove, authenticationAnswered, authenticationHeard}
 use Rattle.peer.specs.Farewell.{deauthenticationHeard}
 use Rattle.peer.specs.Association.{requestHeard, rejectedOf, responseHeard}
 use Rattle.peer.specs.Challenge.{isChallenged, passedOf as unmarked}
@@ -40,10 +40,10 @@ use Rattle.table.specs.Case.{same, answerFields, recordFields, sameTable
 use Rattle.table.specs.Marked.{marked}
 
 pub marked-cases : allOf comesOut marked ≡ true
-unfolding validOf groupOf octets classOf isPublicAction walk ends isResponse brokenOf authenticationOf responseOf heardOf leastManagement isBare leastOf shapeOf capabilityOf
-    aidField headOf bodyOf bytesOf writtenOf lengthOf settingsFit queryTimesFit timeFits isJoined associates freshOf isFree changedOf queryIn queriedOf stands askedFits awaitingFits
-    sentFits holdFits recordFits queryAllowed placeFits dsOf apAddress sendOf authenticationTo disassociationTo requestTo responseTo turnOf endedOf
-    begunOf repliedOf stillOf barredOf requestedOf authenticationAtAp answeredMove authenticationAtStation authenticationHeard
+unfolding validOf groupOf octets classIn classOf isPublicAction walk ends isResponse brokenOf authenticationOf responseOf heardOf leastManagement isBare leastOf shapeOf capabilityOf
+    aidField headOf bodyOf bytesOf writtenOf lengthOf settingsFit queryTimesFit networkFits roleAnswers roleAsks roleAssociates timeFits isJoined associates freshOf isFree changedOf queryIn queriedOf stands askedFits awaitingFits
+    sentFits holdFits recordFits highestState queryAllowed placeFits dsOf networkAddress sendOf authenticationTo disassociationTo requestTo responseTo turnOf endedOf
+    begunOf repliedOf stillOf barredOf requestedOf authenticationAsked answeredMove authenticationAnswered authenticationHeard
     deauthenticationHeard isChallenged unmarked requestHeard rejectedOf responseHeard hearOf codeAllowed roleAllowed joinConflict conflictOf joinedElsewhere
     mismatchOf heldOf startedOf answerOf associateOf awaitedOf respondOf reportedMove reportOf askOf timedOf freedOf queriedTimed reportedOf tickOf firstFrom
     allTails countOf aloneIn crowdOf sparseOf wellFormed associatedOf othersOf settledOf refusedOf steppedOf seatedOf startsOf newcomerOf

@@ -22,6 +22,7 @@ use Rattle.peer.specs.Record.{freeOf}
 use Rattle.peer.specs.declared.record.Exchange.the-variants.{None}
 use Rattle.peer.specs.declared.query.Query.the-variants as query
 use Rattle.peer.specs.declared.record.Record.{Record}
+use Rattle.peer.specs.Settings.{roleAssociates}
 use Rattle.peer.specs.declared.settings.Settings.{Settings}
 use Rattle.peer.specs.declared.turn.Turn.{Turn}
 use Rattle.table.specs.Answer.{refusedOf, settledOf, steppedOf}
@@ -49,7 +50,7 @@ isClock event.Frame = false
 isClock (event.Ask q a c) = false
 isClock (event.Clock d) = true
 
--- the statement: both roles, every rule, in a table of any kind
+-- the statement: every role, every rule, in a table of any kind
 abbrev pub PlaceKept : Type 0
 PlaceKept =
     (s : Settings) (t : List Record) (e : Event) (xs : List ℕ) (n : ℕ) → isClock e ≡ false → (i : ℕ) → eqb (getD t i freeOf .address) 0 ≡ false
@@ -103,7 +104,7 @@ module _ (t : List Record) where
     unfolding receivedOf refusedOf settledOf
     frame-stays xs n =
         pick-both (Stays t) (ltb n longest) (λ i z. refl)
-        (pick-both (Stays t) (not (wellFormed s t)) (λ i z. refl) (heard (readOf (s .own) xs)))
+        (pick-both (Stays t) (not (wellFormed s t)) (λ i z. refl) (heard (readOf (s .own) (roleAssociates (s .role)) xs)))
 
     unless-stays : (n : ℕ) (m : Met) → Stays t m → Stays t (unless n t m)
     unfolding unless refusedOf settledOf
@@ -128,7 +129,7 @@ place-kept s t (event.Clock d) xs n c i z = wrong (sym c)
 
 -- For one: a peer in State 4 at place 0 of an access point, deauthenticated from our own side.
 abbrev ours : Settings
-ours = record { own = 2; authentication = 100; association = 100; role = 1; rsna = 0; edition = 1; protection = 0; retry = 201; maximum = 1000 }
+ours = record { own = 2; network = 0; authentication = 100; association = 100; role = 1; rsna = 0; edition = 1; protection = 0; retry = 201; maximum = 1000 }
 
 abbrev peer : Record
 peer = record { address = 4; state = 4; exchange = None; left = 0; hold = 0; query = query.None; identifier = 0 }

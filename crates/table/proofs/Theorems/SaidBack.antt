@@ -12,7 +12,7 @@ use lib.ListN.{length, getD, take}
 use borrow.Author.Tests.{eqb-true, ltb-true, not-false, not-true}
 use Rattle.octets.proofs.Branch.{by-bool, pick-both, pick-by}
 use Rattle.octets.specs.Address.{validOf, groupOf}
-use Rattle.octets.specs.Class.{classless, classOf, numberOf}
+use Rattle.octets.specs.Class.{classIn, classless, classOf, numberOf}
 use Rattle.octets.specs.Element.{brokenOf}
 use Rattle.octets.specs.Field.{allOctets, field}
 use Rattle.octets.specs.Frame.{longest}
@@ -22,6 +22,7 @@ use Rattle.octets.specs.declared.heard.Heard.{Heard}
 use Rattle.octets.specs.declared.shape.Shape.{Shape}
 use Rattle.octets.specs.declared.shape.Shape.the-variants.{Misfit, Classless, Bare, Full}
 use Rattle.peer.proofs.AskSaid.{ask-said}
+use Rattle.peer.proofs.Classes.{same-classless}
 use Rattle.peer.proofs.Fits.{Fits, both, fits-of, or-left, wrong}
 use Rattle.peer.proofs.HearSaid.{full-said, hear-said}
 use Rattle.peer.proofs.Keeps.{found-fits, fresh-fits, query-soon}
@@ -33,7 +34,7 @@ use Rattle.peer.specs.Hear.{hearOf}
 use Rattle.peer.specs.Record.{freeOf, freshOf, isFree, isJoined, underWay}
 use Rattle.peer.specs.Refuse.{codeAllowed}
 use Rattle.peer.specs.Said.{ReadsTo, Speaks, repliedSays}
-use Rattle.peer.specs.Settings.{ap}
+use Rattle.peer.specs.Settings.{roleAnswers, roleAssociates}
 use Rattle.peer.specs.declared.query.Query.the-variants as query
 use Rattle.peer.specs.declared.record.Record.{Record}
 use Rattle.peer.specs.declared.refuse.Others.{Others}
@@ -101,7 +102,7 @@ module _ (s : Settings) where
 
   others-below : (t : List Record) → allOf (placeFits s) t ≡ true → othersOf s t .associated < 2 ^ 48
   unfolding othersOf
-  others-below t h = pick-both (λ (o : Others). o .associated < 2 ^ 48) (eqb (s .role) ap) (omega arith) (associated-below t h)
+  others-below t h = pick-both (λ (o : Others). o .associated < 2 ^ 48) (roleAnswers (s .role)) (omega arith) (associated-below t h)
 
   module _ (t : List Record) (w : Well s t) where
     free-fits : placeFits s freeOf ≡ true
@@ -119,31 +120,34 @@ module _ (s : Settings) where
         let z : getD t i freeOf .address ≡ a = sym (get-map (λ (p : Record). p .address) t i freeOf) ∙ eqb-true _ a b in
         (found-fits s (getD t i freeOf) (all-get (placeFits s) t i freeOf (w .places) free-fits) (rw z v), z)
 
-    -- ---- frames
+    -- ---- frames, of the classes where there are access points or in an ad hoc network
 
-    module _ (xs : List ℕ) (o : allOctets xs ≡ true) (k : classless (classOf xs) ≡ false) (group : Bool) where
-      turned : (p : Record) → Fits s p → Speaks s (p .address) (repliedSays s (p .state) (p .query) (numberOf (classOf xs)) (heardOf xs)) (hearOf s p (classOf xs) group (heardOf xs) .reply)
-      turned p f = hear-said s (w .settings) p (f .valid) (f .low) (query-soon s p (w .settings) f) xs o k group
+    abbrev on : Bool
+    on = roleAssociates (s .role)
 
-      stranger-said : (a : ℕ) (free : Found) → Fits s (freshOf a) → Said a (repliedSays s 1 query.None (numberOf (classOf xs)) (heardOf xs)) (newcomerOf t free (hearOf s (freshOf a) (classOf xs) group (heardOf xs)) (fullOf s (freshOf a)))
+    module _ (xs : List ℕ) (o : allOctets xs ≡ true) (k : classless (classIn on xs) ≡ false) (group : Bool) where
+      turned : (p : Record) → Fits s p → Speaks s (p .address) (repliedSays s (p .state) (p .query) (numberOf (classIn on xs)) (heardOf xs)) (hearOf s p (classIn on xs) group (heardOf xs) .reply)
+      turned p f = hear-said s (w .settings) p (f .valid) (f .low) (query-soon s p (w .settings) f) on xs o k group
+
+      stranger-said : (a : ℕ) (free : Found) → Fits s (freshOf a) → Said a (repliedSays s 1 query.None (numberOf (classIn on xs)) (heardOf xs)) (newcomerOf t free (hearOf s (freshOf a) (classIn on xs) group (heardOf xs)) (fullOf s (freshOf a)))
       unfolding newcomerOf strangerOf seatedOf startsOf freshOf
       stranger-said a free f =
-          pick-by (Said a _) (not (eqb (underWay (hearOf s (freshOf a) (classOf xs) group (heardOf xs) .peer .exchange)) 0))
+          pick-by (Said a _) (not (eqb (underWay (hearOf s (freshOf a) (classIn on xs) group (heardOf xs) .peer .exchange)) 0))
           (λ b. placed free (not-true _ b))
           (λ b. turned (freshOf a) f)
         where
-          placed : (free : Found) → eqb (underWay (hearOf s (freshOf a) (classOf xs) group (heardOf xs) .peer .exchange)) 0 ≡ false → Said a (repliedSays s 1 query.None (numberOf (classOf xs)) (heardOf xs)) (onFound free (strangerOf t (fullOf s (freshOf a))) (λ i. seatedOf t i (hearOf s (freshOf a) (classOf xs) group (heardOf xs))))
-          placed Nothing b = full-said s (w .settings) (freshOf a) (f .valid) (f .low) (query-soon s (freshOf a) (w .settings) f) refl refl xs k group b
+          placed : (free : Found) → eqb (underWay (hearOf s (freshOf a) (classIn on xs) group (heardOf xs) .peer .exchange)) 0 ≡ false → Said a (repliedSays s 1 query.None (numberOf (classIn on xs)) (heardOf xs)) (onFound free (strangerOf t (fullOf s (freshOf a))) (λ i. seatedOf t i (hearOf s (freshOf a) (classIn on xs) group (heardOf xs))))
+          placed Nothing b = full-said s (w .settings) (freshOf a) (f .valid) (f .low) (query-soon s (freshOf a) (w .settings) f) refl refl on xs k group b
           placed (At i) b = turned (freshOf a) f
 
-      from-said : (a : ℕ) → not (eqb a (s .own)) ≡ true → validOf a ≡ true → (at free : Found) → findOf (addressesOf t) a ≡ at → Said a (repliedSays s (peerOf t at a .state) (peerOf t at a .query) (numberOf (classOf xs)) (heardOf xs)) (turnIn t at free (hearOf s (peerOf t at a) (classOf xs) group (heardOf xs)) (fullOf s (peerOf t at a)))
+      from-said : (a : ℕ) → not (eqb a (s .own)) ≡ true → validOf a ≡ true → (at free : Found) → findOf (addressesOf t) a ≡ at → Said a (repliedSays s (peerOf t at a .state) (peerOf t at a .query) (numberOf (classIn on xs)) (heardOf xs)) (turnIn t at free (hearOf s (peerOf t at a) (classIn on xs) group (heardOf xs)) (fullOf s (peerOf t at a)))
       unfolding seatedOf freshOf
       from-said a own v Nothing free e = stranger-said a free (fresh-fits s a own v)
       from-said a own v (At i) free e =
           let f = peer-fits a own v (At i) e in
           rw (f .1) at (turned (getD t i freeOf) (f .0))
 
-    read-said : (xs : List ℕ) → allOctets xs ≡ true → (shape : Shape) → shapeOf xs ≡ shape → Said (field 6 10 xs) (saysIn s t event.Frame xs) (heardAt s t (addressesOf t) (readAs shape (s .own) xs))
+    read-said : (xs : List ℕ) → allOctets xs ≡ true → (shape : Shape) → shapeOf xs ≡ shape → Said (field 6 10 xs) (saysIn s t event.Frame xs) (heardAt s t (addressesOf t) (readAs shape (s .own) on xs))
     unfolding refusedOf settledOf readBare readFull readFrom heardFrom
     read-said xs o Misfit e = tt
     read-said xs o Classless e = tt
@@ -155,7 +159,7 @@ module _ (s : Settings) where
         (λ g.
         let n = or-left (eqb (field 6 10 xs) (s .own)) _ g in
         by-bool (brokenOf xs) (λ b. rw (u, g, b) tt) (λ b.
-        rw (u, g, b) (from-said xs o (full-classed xs e) (groupOf (field 6 4 xs)) (field 6 10 xs) (rw (n .0)) (not-false _ (n .1))
+        rw (u, g, b) (from-said xs o (same-classless on xs ∙ full-classed xs e) (groupOf (field 6 4 xs)) (field 6 10 xs) (rw (n .0)) (not-false _ (n .1))
         (findOf (addressesOf t) (field 6 10 xs)) (findOf (addressesOf t) 0) refl))))
 
     -- ---- primitives

@@ -12,7 +12,7 @@ use lib.ListN.{length, getD, replicate}
 use borrow.Author.Tests.{lt-ltb}
 use Rattle.octets.proofs.Branch.{by-bool}
 use Rattle.octets.specs.Address.{validOf, groupOf}
-use Rattle.octets.specs.Class.{classOf, isPublicAction}
+use Rattle.octets.specs.Class.{classIn, classOf, isPublicAction}
 use Rattle.octets.specs.Element.{brokenOf, isResponse}
 use Rattle.octets.specs.Field.{octets}
 use Rattle.octets.specs.Frame.{aidField, bodyOf, bytesOf, capabilityOf, comebackElement, headOf, lengthOf, writtenOf}
@@ -20,22 +20,23 @@ use Rattle.octets.specs.Heard.{heardOf}
 use Rattle.octets.specs.Shape.{isBare, leastManagement, leastOf, shapeOf}
 use Rattle.octets.specs.declared.element.Comeback.the-variants.{Absent, Given}
 use Rattle.octets.specs.declared.heard.Heard.the-variants as heard
-use Rattle.octets.specs.declared.heard.Kind.the-variants.{Association}
+use Rattle.octets.specs.declared.heard.Kind.the-variants.{Association, Authentication}
 use Rattle.peer.proofs.Queries.{site}
-use Rattle.peer.specs.Ask.{askOf, awaitedOf, respondOf}
+use Rattle.peer.specs.Ask.{answerOf, askOf, awaitedOf, respondOf, startedOf}
 use Rattle.peer.specs.Association.{requestHeard}
 use Rattle.peer.specs.Challenge.{challengedOf, inquiredOf, isChallenged, queryingOf}
+use Rattle.peer.specs.Authentication.{answeredMove}
 use Rattle.peer.specs.Filter.{barredOf}
-use Rattle.peer.specs.Fit.{askedFits, holdFits, placeFits, queryAllowed, queryStands, recordFits, runningFits, stands}
+use Rattle.peer.specs.Fit.{askedFits, highestState, holdFits, placeFits, queryAllowed, queryStands, recordFits, runningFits, stands}
 use Rattle.peer.specs.Hear.{hearOf}
 use Rattle.peer.specs.Moves.{dsOf}
 use Rattle.peer.specs.Query.{queryIn, runningOf}
 use Rattle.peer.specs.Record.{associates, changedOf, freeOf, freshOf, isFree, isJoined, queriedOf}
 use Rattle.peer.specs.Refuse.{codeAllowed, conflictOf, heldOf, joinedElsewhere, mismatchOf, roleAllowed}
-use Rattle.peer.specs.Reply.{apAddress, deauthenticationTo, laterTo, queryTo, responseTo, sendOf}
+use Rattle.peer.specs.Reply.{authenticationTo, deauthenticationTo, laterTo, networkAddress, queryTo, requestTo, responseTo, sendOf}
 use Rattle.peer.specs.Said.{ReadsTo}
-use Rattle.peer.specs.Settings.{queryTimesFit, settingsFit, station, timeFits}
-use Rattle.peer.specs.Turn.{begunOf, repliedOf, turnOf}
+use Rattle.peer.specs.Settings.{networkFits, queryTimesFit, roleAnswers, roleAsks, roleAssociates, settingsFit, timeFits}
+use Rattle.peer.specs.Turn.{begunOf, endedOf, repliedOf, turnOf}
 use Rattle.peer.specs.declared.record.Exchange.the-variants.{Asked, None}
 use Rattle.peer.specs.declared.query.Query.the-variants as query
 use Rattle.peer.specs.declared.record.Record.{Record}
@@ -59,7 +60,7 @@ use Rattle.table.proofs.Theorems.Well.{well-of}
 -- ---- two steps of an AP, own address 0a, with 0c associated and 0e at place 1, whose association is asked
 
 abbrev home : Settings
-home = record { role = 1; own = 0x0a; rsna = 0; authentication = 10; association = 10; edition = 1; protection = 0; retry = 201; maximum = 1000 }
+home = record { role = 1; own = 0x0a; network = 0; rsna = 0; authentication = 10; association = 10; edition = 1; protection = 0; retry = 201; maximum = 1000 }
 
 abbrev two : List Record
 two =
@@ -72,8 +73,8 @@ accepted :
     ReadsTo home 0x0e (heard.Response Association 0 2 Absent)
     (0x10 ∷ 0 ∷ 0 ∷ 0 ∷ 0x0e ∷ 0 ∷ 0 ∷ 0 ∷ 0 ∷ 0 ∷ 0x0a ∷ 0 ∷ 0 ∷ 0 ∷ 0 ∷ 0 ∷ 0x0a ∷ 0 ∷ 0 ∷ 0 ∷ 0 ∷ 0 ∷ 0 ∷ 0 ∷
     0x01 ∷ 0 ∷ 0 ∷ 0 ∷ 2 ∷ 0xc0 ∷ [])
-unfolding validOf octets capabilityOf aidField headOf bodyOf bytesOf writtenOf lengthOf settingsFit queryTimesFit timeFits isJoined associates freshOf isFree
-    changedOf queryIn stands askedFits holdFits recordFits queryAllowed placeFits dsOf apAddress sendOf responseTo turnOf begunOf codeAllowed roleAllowed conflictOf
+unfolding validOf octets capabilityOf aidField headOf bodyOf bytesOf writtenOf lengthOf settingsFit queryTimesFit networkFits roleAnswers roleAsks roleAssociates timeFits isJoined associates freshOf isFree
+    changedOf queryIn stands askedFits holdFits recordFits highestState queryAllowed placeFits dsOf networkAddress sendOf responseTo turnOf begunOf codeAllowed roleAllowed conflictOf
     joinedElsewhere mismatchOf heldOf awaitedOf respondOf askOf firstFrom allTails countOf aloneIn crowdOf sparseOf wellFormed associatedOf
     othersOf settledOf refusedOf steppedOf seatedOf startsOf newcomerOf firstOf unless mayAsk noPlace askedAt askedOf
 accepted = step-said home two refl (event.Ask 7 0x0e 0) [] (replicate 37 0) (omega arith) (omega arith)
@@ -82,8 +83,8 @@ accepted = step-said home two refl (event.Ask 7 0x0e 0) [] (replicate 37 0) (ome
 kept-out :
     ReadsTo home 0x06 (heard.Deauthentication 7)
     (0xc0 ∷ 0 ∷ 0 ∷ 0 ∷ 0x06 ∷ 0 ∷ 0 ∷ 0 ∷ 0 ∷ 0 ∷ 0x0a ∷ 0 ∷ 0 ∷ 0 ∷ 0 ∷ 0 ∷ 0x0a ∷ 0 ∷ 0 ∷ 0 ∷ 0 ∷ 0 ∷ 0 ∷ 0 ∷ 7 ∷ 0 ∷ [])
-unfolding validOf groupOf octets classOf isPublicAction isResponse brokenOf heardOf isBare leastOf shapeOf headOf bodyOf bytesOf writtenOf lengthOf settingsFit queryTimesFit timeFits isJoined
-    associates freshOf isFree changedOf queryIn stands askedFits holdFits recordFits queryAllowed placeFits dsOf apAddress sendOf deauthenticationTo turnOf repliedOf
+unfolding validOf groupOf octets classIn classOf isPublicAction isResponse brokenOf heardOf isBare leastOf shapeOf headOf bodyOf bytesOf writtenOf lengthOf settingsFit queryTimesFit networkFits roleAnswers roleAsks roleAssociates timeFits isJoined
+    associates freshOf isFree changedOf queryIn stands askedFits holdFits recordFits highestState queryAllowed placeFits dsOf networkAddress sendOf deauthenticationTo turnOf repliedOf
     barredOf hearOf firstFrom allTails countOf aloneIn crowdOf sparseOf wellFormed settledOf refusedOf steppedOf seatedOf startsOf newcomerOf
     strangerOf forUs readFrom readFull readOf heardFrom receivedOf
 kept-out =
@@ -96,8 +97,8 @@ put-off :
     ReadsTo site 0x04 (heard.Response Association 30 0 (Given 1000))
     (0x10 ∷ 0 ∷ 0 ∷ 0 ∷ 0x04 ∷ 0 ∷ 0 ∷ 0 ∷ 0 ∷ 0 ∷ 0x02 ∷ 0 ∷ 0 ∷ 0 ∷ 0 ∷ 0 ∷ 0x02 ∷ 0 ∷ 0 ∷ 0 ∷ 0 ∷ 0 ∷ 0 ∷ 0 ∷
     0x01 ∷ 0 ∷ 30 ∷ 0 ∷ 0 ∷ 0 ∷ 56 ∷ 5 ∷ 3 ∷ 0xe8 ∷ 0x03 ∷ 0 ∷ 0 ∷ [])
-unfolding validOf groupOf octets classOf isPublicAction isResponse brokenOf heardOf leastManagement isBare leastOf shapeOf capabilityOf comebackElement aidField
-    headOf bodyOf bytesOf writtenOf lengthOf settingsFit queryTimesFit timeFits isFree holdFits recordFits queryAllowed placeFits apAddress sendOf laterTo
+unfolding validOf groupOf octets classIn classOf isPublicAction isResponse brokenOf heardOf leastManagement isBare leastOf shapeOf capabilityOf comebackElement aidField
+    headOf bodyOf bytesOf writtenOf lengthOf settingsFit queryTimesFit networkFits roleAnswers roleAsks roleAssociates timeFits isFree holdFits recordFits highestState queryAllowed placeFits networkAddress sendOf laterTo
     turnOf isChallenged challengedOf queryingOf queriedOf runningOf requestHeard hearOf firstFrom allTails aloneIn sparseOf wellFormed settledOf refusedOf
     steppedOf seatedOf forUs readFrom readFull readOf heardFrom receivedOf
 put-off = step-said site (with query.None) refl event.Frame request (replicate 37 0) refl (omega arith)
@@ -106,10 +107,35 @@ put-off = step-said site (with query.None) refl event.Frame request (replicate 3
 inquired :
     ReadsTo site 0x04 (heard.QueryRequest 6)
     (0xd0 ∷ 0 ∷ 0 ∷ 0 ∷ 0x04 ∷ 0 ∷ 0 ∷ 0 ∷ 0 ∷ 0 ∷ 0x02 ∷ 0 ∷ 0 ∷ 0 ∷ 0 ∷ 0 ∷ 0x02 ∷ 0 ∷ 0 ∷ 0 ∷ 0 ∷ 0 ∷ 0 ∷ 0 ∷ 8 ∷ 0 ∷ 6 ∷ 0 ∷ [])
-unfolding validOf octets headOf bodyOf bytesOf writtenOf lengthOf settingsFit queryTimesFit timeFits isFree holdFits recordFits queryAllowed runningFits queryStands
-    placeFits apAddress sendOf queryTo turnOf inquiredOf queriedOf codeAllowed roleAllowed conflictOf mismatchOf heldOf askOf firstFrom allTails aloneIn sparseOf
+unfolding validOf octets headOf bodyOf bytesOf writtenOf lengthOf settingsFit queryTimesFit networkFits roleAnswers roleAsks roleAssociates timeFits isFree holdFits recordFits highestState queryAllowed runningFits queryStands
+    placeFits networkAddress sendOf queryTo turnOf inquiredOf queriedOf codeAllowed roleAllowed conflictOf mismatchOf heldOf askOf firstFrom allTails aloneIn sparseOf
     wellFormed othersOf settledOf refusedOf steppedOf seatedOf firstOf unless mayAsk noPlace askedAt askedOf
 inquired = step-said site (with (query.Running 3 true)) refl (event.Ask 11 0x04 0) [] (replicate 37 0) (omega arith) (omega arith)
+
+-- ---- in an ad hoc network, 06, where Address 3 is the network's: primitive 1 to a stranger, and primitive 2 to one that asked
+
+abbrev met : Settings
+met = record { role = 3; own = 0x0a; network = 0x06; rsna = 0; authentication = 10; association = 10; edition = 1; protection = 0; retry = 201; maximum = 1000 }
+
+asked-first :
+    ReadsTo met 0x0c (heard.Authentication 0 1 0)
+    (0xb0 ∷ 0 ∷ 0 ∷ 0 ∷ 0x0c ∷ 0 ∷ 0 ∷ 0 ∷ 0 ∷ 0 ∷ 0x0a ∷ 0 ∷ 0 ∷ 0 ∷ 0 ∷ 0 ∷ 0x06 ∷ 0 ∷ 0 ∷ 0 ∷ 0 ∷ 0 ∷ 0 ∷ 0 ∷ 0 ∷ 0 ∷ 1 ∷ 0 ∷ 0 ∷ 0 ∷ [])
+unfolding validOf octets headOf bodyOf bytesOf writtenOf lengthOf settingsFit queryTimesFit networkFits roleAnswers roleAsks roleAssociates timeFits isFree freshOf
+    placeFits networkAddress sendOf requestTo turnOf startedOf begunOf changedOf queryIn codeAllowed roleAllowed conflictOf mismatchOf heldOf askOf firstFrom allTails aloneIn
+    sparseOf wellFormed othersOf settledOf refusedOf steppedOf seatedOf startsOf newcomerOf firstOf unless mayAsk noPlace askedAt askedOf
+asked-first = step-said met (replicate 32 freeOf) refl (event.Ask 1 0x0c 0) [] (replicate 37 0) (omega arith) (omega arith)
+
+abbrev asking : List Record
+asking = (record { address = 0x0c; state = 1; exchange = Asked Authentication; left = 0; hold = 0; query = query.None; identifier = 0 }) ∷ replicate 31 freeOf
+
+answered :
+    ReadsTo met 0x0c (heard.Authentication 0 2 0)
+    (0xb0 ∷ 0 ∷ 0 ∷ 0 ∷ 0x0c ∷ 0 ∷ 0 ∷ 0 ∷ 0 ∷ 0 ∷ 0x0a ∷ 0 ∷ 0 ∷ 0 ∷ 0 ∷ 0 ∷ 0x06 ∷ 0 ∷ 0 ∷ 0 ∷ 0 ∷ 0 ∷ 0 ∷ 0 ∷ 0 ∷ 0 ∷ 2 ∷ 0 ∷ 0 ∷ 0 ∷ [])
+unfolding validOf octets headOf bodyOf bytesOf writtenOf lengthOf settingsFit queryTimesFit networkFits roleAnswers roleAsks roleAssociates timeFits isFree holdFits
+    askedFits stands recordFits highestState queryAllowed placeFits networkAddress sendOf authenticationTo turnOf answerOf answeredMove endedOf changedOf queryIn codeAllowed roleAllowed
+    conflictOf mismatchOf heldOf askOf firstFrom allTails aloneIn sparseOf wellFormed othersOf settledOf refusedOf steppedOf seatedOf firstOf unless mayAsk noPlace
+    askedAt askedOf
+answered = step-said met asking refl (event.Ask 2 0x0c 0) [] (replicate 37 0) (omega arith) (omega arith)
 
 -- ---- the places
 
@@ -146,9 +172,9 @@ only (p ∷ t) (suc i) b c j = by-bool (isJoined p)
     rw e (only t i (le-of-suc-le-suc b) (omega arith) j))
 
 pub associated-place :
-    (s : Settings) (t : List Record) → wellFormed s t ≡ true → length t ≡ 32 → s .role ≡ station → (i : ℕ) → i < 32 → isJoined (getD t i freeOf) ≡ true
+    (s : Settings) (t : List Record) → wellFormed s t ≡ true → length t ≡ 32 → roleAnswers (s .role) ≡ false → (i : ℕ) → i < 32 → isJoined (getD t i freeOf) ≡ true
     → othersOf s t .associated ≡ getD t i freeOf .address
 unfolding othersOf
 associated-place s t h l r i below j =
     let w = well-of s t h l in
-    rw r (only t i (rw l below) (w .joined (rw r)) j)
+    rw r (only t i (rw l below) (w .joined r) j)

@@ -5,14 +5,13 @@ use mathlib.Core.Path.{_≡_, refl, sym, _∙_}
 use mathlib.Core.Bool.{Bool, true, false, not, _||_}
 use mathlib.Core.List.{List, _∷_, map}
 use native.Mathlib.Omega.{arith}
-use lib.Dec.{eqb, leb, ltb}
+use lib.Dec.{eqb, ltb}
 use lib.ListN.{length, length-map}
-use borrow.Author.Tests.{eq-eqb, eqb-false, leb-true, ltb-false, not-false, not-true}
-use mathlib.Core.Logic.{_≢_}
+use borrow.Author.Tests.{ltb-false, not-false}
 use Rattle.octets.proofs.Below.{heard-fits}
 use Rattle.octets.proofs.Branch.{by-bool}
 use Rattle.octets.specs.Address.{validOf, groupOf}
-use Rattle.octets.specs.Class.{classOf}
+use Rattle.octets.specs.Class.{classIn}
 use Rattle.octets.specs.Element.{brokenOf}
 use Rattle.octets.specs.Field.{allOctets, field}
 use Rattle.octets.specs.Frame.{longest}
@@ -22,12 +21,13 @@ use Rattle.octets.specs.declared.shape.Shape.{Shape}
 use Rattle.octets.specs.declared.shape.Shape.the-variants.{Misfit, Classless, Bare, Full}
 use Rattle.peer.proofs.Fits.{both, clash, or-left, wrong}
 use Rattle.peer.proofs.AskKeeps.{ask-keeps}
-use Rattle.peer.proofs.HearKeeps.{backed, hear-keeps}
+use Rattle.peer.proofs.Classes.{classed}
+use Rattle.peer.proofs.HearKeeps.{hear-keeps}
 use Rattle.peer.proofs.TickKeeps.{tick-keeps}
 use Rattle.peer.specs.Fit.{placeFits}
 use Rattle.peer.specs.Record.{associates, isJoined}
 use Rattle.peer.specs.Refuse.{codeAllowed}
-use Rattle.peer.specs.Settings.{ap, settingsFit, station}
+use Rattle.peer.specs.Settings.{roleAnswers, roleAssociates}
 use Rattle.peer.specs.declared.record.Record.{Record}
 use Rattle.peer.specs.declared.settings.Settings.{Settings}
 use Rattle.table.specs.Answer.{refusedOf, settledOf, steppedOf}
@@ -51,35 +51,26 @@ use Rattle.table.proofs.Passes.Lists.{all-map, count-map, distinct-map}
 abbrev KeptBy : Settings → List Record → Event → List ℕ → ℕ → Type 0
 KeptBy s t e xs n = (wellFormed s (stepOf s t e xs n .table) ≡ true) × (length (stepOf s t e xs n .table) ≡ 32)
 
--- the statement: both roles, every rule, all events; a frame is octets
+-- the statement: every role, every rule, all events; a frame is octets
 abbrev pub EachStepKeeps : Type 0
 EachStepKeeps =
     (s : Settings) (t : List Record) → wellFormed s t ≡ true → length t ≡ 32 → (e : Event) (xs : List ℕ) → allOctets xs ≡ true → (n : ℕ)
     → KeptBy s t e xs n
 
--- at an access point, which sets no hold by what a frame says, it need not be
-abbrev pub EachStepKeepsAtAp : Type 0
-EachStepKeepsAtAp =
-    (s : Settings) → s .role ≡ ap → (t : List Record) → wellFormed s t ≡ true → length t ≡ 32 → (e : Event) (xs : List ℕ) (n : ℕ)
+-- where the role answers, which sets no hold by what a frame says, it need not be
+abbrev pub EachStepKeepsAnswering : Type 0
+EachStepKeepsAnswering =
+    (s : Settings) → roleAnswers (s .role) ≡ true → (t : List Record) → wellFormed s t ≡ true → length t ≡ 32 → (e : Event) (xs : List ℕ) (n : ℕ)
     → KeptBy s t e xs n
 
--- what is asked of a frame: at a station, that it is octets
+-- what is asked of a frame: where the role does not answer, that it is octets
 abbrev Framed : Settings → List ℕ → Type 0
-Framed s xs = eqb (s .role) ap ≡ false → allOctets xs ≡ true
-
-is-station : (s : Settings) → settingsFit s ≡ true → eqb (s .role) ap ≡ false → s .role ≡ station
-unfolding settingsFit
-is-station s h r =
-    let a = both (not (eqb (s .role) 0)) _ h in
-    let b = both (leb (s .role) 2) _ (a .1) in
-    let low : s .role ≢ 0 = eqb-false (s .role) 0 (not-true _ (a .0)) in
-    let one : s .role ≢ 1 = eqb-false (s .role) 1 r in
-    omega (arith, leb-true (s .role) 2 (b .0))
+Framed s xs = roleAnswers (s .role) ≡ false → allOctets xs ≡ true
 
 -- ---- frames
 
 module _ (s : Settings) (t : List Record) (w : Well s t) where
-  heard : (xs : List ℕ) → Framed s xs → (shape : Shape) → Well s (heardAt s t (addressesOf t) (readAs shape (s .own) xs) .table)
+  heard : (xs : List ℕ) → Framed s xs → (shape : Shape) → Well s (heardAt s t (addressesOf t) (readAs shape (s .own) (roleAssociates (s .role)) xs) .table)
   unfolding refusedOf settledOf readBare readFull readFrom heardFrom
   heard xs o Misfit = w
   heard xs o Classless = w
@@ -94,7 +85,7 @@ module _ (s : Settings) (t : List Record) (w : Well s t) where
       rw (e, g, b) (in-turn s t w true (λ r b. wrong (sym b)) (field 6 10 xs) (rw (n .0)) (not-false _ (n .1))
       (findOf (addressesOf t) (field 6 10 xs)) (findOf (addressesOf t) 0) _ _ refl
       (λ f. hear-keeps s true (peerOf t (findOf (addressesOf t) (field 6 10 xs)) (field 6 10 xs)) f (w .settings)
-      (classOf xs) (groupOf (field 6 4 xs)) (heardOf xs) (backed xs) (λ r. heard-fits xs (o r)))))))
+      (classIn (roleAssociates (s .role)) xs) (groupOf (field 6 4 xs)) (heardOf xs) (classed (roleAssociates (s .role)) xs) (λ r. heard-fits xs (o r)))))))
 
   frame-keeps : (xs : List ℕ) → Framed s xs → (n : ℕ) → Well s (receivedOf s t xs n .table)
   unfolding receivedOf refusedOf settledOf readOf
@@ -108,11 +99,11 @@ module _ (s : Settings) (t : List Record) (w : Well s t) where
   unfolding unless refusedOf settledOf
   unless-keeps n m k = by-bool (eqb n 0) (λ e. rw e (k e)) (λ e. rw e w)
 
-  -- a station sees whether any record has a (re)association
-  others-free : eqb (s .role) ap ≡ false → othersOf s t .busy ≡ false → countOf associates t ≡ 0
+  -- who does not answer sees whether any record has a (re)association
+  others-free : roleAnswers (s .role) ≡ false → othersOf s t .busy ≡ false → countOf associates t ≡ 0
   unfolding othersOf crowdOf
   others-free r b =
-      let z : countOf associates t ≤ 0 = ltb-false 0 (countOf associates t) (rw (is-station s (w .settings) r) at b) in
+      let z : countOf associates t ≤ 0 = ltb-false 0 (countOf associates t) (rw r at b) in
       omega arith
 
   none-of : (k : ℕ) (b : Bool) (rest : List (ℕ × Bool)) → eqb k 0 ≡ false → eqb (firstOf ((k, b) ∷ rest)) 0 ≡ true → (b ≡ false) × (eqb (firstOf rest) 0 ≡ true)
@@ -169,5 +160,5 @@ kept-by s t h l e xs o n =
 pub step-keeps : EachStepKeeps
 step-keeps s t h l e xs o n = kept-by s t h l e xs (λ r. o) n
 
-pub step-keeps-at-ap : EachStepKeepsAtAp
-step-keeps-at-ap s role t h l e xs n = kept-by s t h l e xs (λ r. clash (eq-eqb (s .role) ap role) r) n
+pub step-keeps-answering : EachStepKeepsAnswering
+step-keeps-answering s role t h l e xs n = kept-by s t h l e xs (λ r. clash role r) n

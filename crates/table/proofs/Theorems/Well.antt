@@ -18,7 +18,7 @@ use Rattle.peer.proofs.TickKeeps.{freed-placed}
 use Rattle.peer.specs.Association.{partedOf}
 use Rattle.peer.specs.Fit.{placeFits}
 use Rattle.peer.specs.Record.{associates, freeOf, freshOf, isFree, isJoined}
-use Rattle.peer.specs.Settings.{ap, settingsFit}
+use Rattle.peer.specs.Settings.{roleAnswers, settingsFit}
 use Rattle.peer.specs.declared.record.Record.{Record}
 use Rattle.peer.specs.declared.settings.Settings.{Settings}
 use Rattle.peer.specs.declared.turn.Turn.{Turn}
@@ -35,8 +35,8 @@ pub record Well (s : Settings) (t : List Record) : Type 0 where
   pub long : length t ≡ 32
   pub places : allOf (placeFits s) t ≡ true
   pub distinct : distinctOf (addressesOf t) ≡ true
-  pub joined : eqb (s .role) ap ≡ false → countOf isJoined t ≤ 1
-  pub associating : eqb (s .role) ap ≡ false → countOf associates t ≤ 1
+  pub joined : roleAnswers (s .role) ≡ false → countOf isJoined t ≤ 1
+  pub associating : roleAnswers (s .role) ≡ false → countOf associates t ≤ 1
 
 pub well-of : (s : Settings) (t : List Record) → wellFormed s t ≡ true → length t ≡ 32 → Well s t
 unfolding wellFormed sparseOf crowdOf
@@ -55,7 +55,7 @@ well-of s t h l =
 
 pub of-well : (s : Settings) (t : List Record) → Well s t → wellFormed s t ≡ true
 unfolding wellFormed sparseOf crowdOf
-of-well s t w = rw (w .settings, w .places, w .distinct) (by-bool (eqb (s .role) ap)
+of-well s t w = rw (w .settings, w .places, w .distinct) (by-bool (roleAnswers (s .role))
     (λ r. rw r)
     (λ r. rw (r, le-leb (countOf isJoined t) 1 (w .joined r), le-leb (countOf associates t) 1 (w .associating r))))
 
@@ -69,7 +69,7 @@ ruleset seats = (placed, freed-placed)
 
 -- ---- a place stored
 
-module _ (s : Settings) (t : List Record) (w : Well s t) (busy : Bool) (none : eqb (s .role) ap ≡ false → busy ≡ false → countOf associates t ≡ 0) where
+module _ (s : Settings) (t : List Record) (w : Well s t) (busy : Bool) (none : roleAnswers (s .role) ≡ false → busy ≡ false → countOf associates t ≡ 0) where
   seated :
       (i : ℕ) (p q : Record) (sole : Bool) → Placed s busy p q sole → distinctOf (set (addressesOf t) i (q .address)) ≡ true
       → (isJoined p ≡ true → isJoined (getD t i freeOf) ≡ true) → (associates p ≡ true → associates (getD t i freeOf) ≡ true)

@@ -19,7 +19,7 @@ use Rattle.peer.specs.Fit.{placeFits}
 use Rattle.peer.specs.Query.{isDue}
 use Rattle.peer.specs.Record.{associates, awaitingOf, freeOf, freshOf, isAsked, isFree, isJoined}
 use Rattle.peer.specs.Refuse.{codeAllowed, roleAllowed, conflictOf, joinConflict, joinedElsewhere, mismatchOf, heldOf}
-use Rattle.peer.specs.Settings.{ap, settingsFit, station}
+use Rattle.peer.specs.Settings.{roleAnswers, settingsFit, station}
 use Rattle.peer.specs.declared.record.Record.{Record}
 use Rattle.peer.specs.declared.refuse.Others.{Others}
 use Rattle.peer.specs.declared.settings.Settings.{Settings}
@@ -50,7 +50,7 @@ not-leb n = by-bool (leb 3 n)
 record Facts (s : Settings) (t : List Record) : Type 0 where
   places : allOf (placeFits s) t ≡ true
   distinct : distinctOf (addressesOf t) ≡ true
-  joined : eqb (s .role) ap ≡ false → countOf isJoined t ≤ 1
+  joined : roleAnswers (s .role) ≡ false → countOf isJoined t ≤ 1
 
 facts : (s : Settings) (t : List Record) → wellFormed s t ≡ true → Facts s t
 unfolding wellFormed sparseOf crowdOf
@@ -138,8 +138,8 @@ module _ (s : Settings) (t : List Record) (w : Facts s t) (a : ℕ) (v : validOf
   unfolding freshOf
   due-same = apply not (has-peer (λ (p : Record). isDue (p .query)) refl)
 
-  -- at a station
-  module _ (r : eqb (s .role) ap ≡ false) where
+  -- where the role answers nobody
+  module _ (r : roleAnswers (s .role) ≡ false) where
     busy-same : someOf associates t ≡ others .busy
     unfolding othersOf crowdOf
     busy-same = rw r (some-count associates t)
@@ -152,8 +152,9 @@ module _ (s : Settings) (t : List Record) (w : Facts s t) (a : ℕ) (v : validOf
     unfolding joinedElsewhere othersOf
     elsewhere-same = rw (r, peer-address) (other-same s a t (w .places) (w .joined r))
 
-  not-ap : eqb (s .role) station ≡ true → eqb (s .role) ap ≡ false
-  not-ap e = rw (eqb-true (s .role) station e)
+  answers-none : eqb (s .role) station ≡ true → roleAnswers (s .role) ≡ false
+  unfolding roleAnswers
+  answers-none e = rw e
 
   abbrev Agree : ℕ → Type 0
   Agree q = roleAllowed q (s .role) ≡ true → Same q
@@ -165,8 +166,8 @@ module _ (s : Settings) (t : List Record) (w : Facts s t) (a : ℕ) (v : validOf
       (λ r. record { nine = or-false _ ∙ exchange-same; seven = refl; eight = refl; six = room-same })
       (λ r. record { nine = refl; seven = or-false _ ∙ asked-same Authentication; eight = refl; six = refl })
       (λ r. record { nine = refl; seven = refl; eight = refl; six = refl })
-      (λ r. record { nine = join-same (not-ap r); seven = or-false _ ∙ elsewhere-same (not-ap r); eight = held-same; six = refl })
-      (λ r. record { nine = join-same (not-ap r); seven = refl; eight = held-same; six = refl })
+      (λ r. record { nine = join-same (answers-none r); seven = or-false _ ∙ elsewhere-same (answers-none r); eight = held-same; six = refl })
+      (λ r. record { nine = join-same (answers-none r); seven = refl; eight = held-same; six = refl })
       (λ r. record { nine = refl; seven = refl; eight = refl; six = refl })
       (λ r. record { nine = refl; seven = or-false _ ∙ asked-same Association; eight = refl; six = refl })
       (λ r. record { nine = refl; seven = or-false _ ∙ asked-same Reassociation; eight = refl; six = refl })

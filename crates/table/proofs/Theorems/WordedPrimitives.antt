@@ -10,7 +10,7 @@ use Rattle.octets.proofs.Branch.{by-bool}
 use Rattle.octets.specs.Address.{validOf}
 use Rattle.peer.proofs.Fits.{wrong}
 use Rattle.peer.specs.Refuse.{codeAllowed, roleAllowed}
-use Rattle.peer.specs.Settings.{ap, station}
+use Rattle.peer.specs.Settings.{ap, roleAnswers, roleAsks, roleAssociates, station}
 use Rattle.peer.specs.declared.settings.Settings.{Settings}
 use Rattle.table.specs.Ask.{mayAsk}
 use Rattle.table.specs.Exactly.{someOf, row, taken, plays, notToBeAsked}
@@ -66,14 +66,13 @@ RolesSame role q = row q (λ r. not (plays (r .who) role)) ≡ not (roleAllowed 
 pub roles-same : (role q : ℕ) → RolesSame role q
 unfolding someOf roleAllowed
 roles-same role =
-    by-number (RolesSame role) at-stations at-aps refl at-stations at-stations refl at-aps at-aps refl at-aps at-aps
+    by-number (RolesSame role) (one (roleAsks role)) (one (roleAnswers role)) refl (one (eqb role station)) (one (eqb role station)) (one (roleAssociates role))
+    (one (eqb role ap)) (one (eqb role ap)) (one (roleAssociates role)) (one (eqb role ap)) (one (eqb role ap))
     (λ q o. simp (o .is1, o .is2, o .is3, o .is4, o .is5, o .is6, o .is7, o .is8, o .is9, o .is10, o .is11))
   where
-    at-stations : (not (eqb role station) || false) ≡ not (eqb role station)
-    at-stations = or-false (not (eqb role station))
-
-    at-aps : (not (eqb role ap) || false) ≡ not (eqb role ap)
-    at-aps = or-false (not (eqb role ap))
+    -- a row's own test, and no other row's
+    one : (b : Bool) → (not b || false) ≡ not b
+    one b = or-false (not b)
 
 pub may-same : (s : Settings) (q a c : ℕ) → notToBeAsked s q a c ≡ not (mayAsk s q a c)
 unfolding mayAsk

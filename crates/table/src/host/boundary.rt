@@ -1,5 +1,5 @@
 // The boundary to C: the three calls with numbers and slices alone, the same on every processor. `include/peer_table.h` declares them.
-// Settings in 12, 14 or 18 octets, or refusal 2; at least 24 for the answer, or refusal 1 and nothing is written. The result is the refusal's number.
+// Settings in 12, 14, 18 or 24 octets, or refusal 2; at least 24 for the answer, or refusal 1 and nothing is written. The result is the refusal's number.
 use crate::host::calls::ask;
 use crate::host::calls::pass;
 use crate::host::calls::receive;

@@ -18,6 +18,7 @@ use crate::rules::seat::settled;
 use octets::frame::Frame;
 use peer::refuse::Others;
 use peer::settings::Settings;
+use peer::settings::associates;
 use peer::turn::Turn;
 ghost use mathlib.Core.Path.{_≡_};
 ghost use mathlib.Core.List.{[]};
@@ -92,7 +93,7 @@ pub fn receive(table: &mut [u8], s: Settings, frame: &[u8], out: &mut [u8]) -> A
     if v.well {} else {
         return Answer::refusal(2);
     }
-    let c = heard_at(s, &*table, read(s.own, frame));
+    let c = heard_at(s, &*table, read(s.own, associates(s.role), frame));
     met(table, c);
     let answer = c.answer;
     let reply = c.reply;

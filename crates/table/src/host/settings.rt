@@ -6,7 +6,7 @@ use peer::settings::Settings;
 ghost use mathlib.Core.Path.{_≡_};
 ghost use Rattle.table.specs.Boundary.{editionIn, maximumIn, retryIn, settingsIn, settingsLength};
 
-// Whether settings may have a length: 12, 14 with edition and protection, or 18 with the times of a query too.
+// Whether settings may have a length: 12, 14 with edition and protection, 18 with the times of a query too, or 24 with the network's address.
 pub fn settings_length(n: usize) -> bool
     ensures { λ r. ⌜ r ≡ settingsLength n ⌝ }
 {
@@ -16,7 +16,10 @@ pub fn settings_length(n: usize) -> bool
     if n == 14 {
         return true;
     }
-    n == 18
+    if n == 18 {
+        return true;
+    }
+    n == 24
 }
 
 // The edition: the first, where none is given.
@@ -39,14 +42,15 @@ fn maximum_in(s: &[u8]) -> u16
     if s.len() < 18 { 1000 } else { u16_at(s, 16) }
 }
 
-// The settings in octets: role, own address, RSNA, two timeouts; edition, protection; a query's retry time and maximum. Of another length:
-// settings out of range, refused 2.
+// The settings in octets: role, own address, RSNA, two timeouts; edition, protection; a query's retry time and maximum; an ad hoc
+// network's address. Of another length: settings out of range, refused 2.
 pub fn settings_in(s: &[u8]) -> Settings
     ensures { λ r. ⌜ r ≡ settingsIn (now (s .entry)) ⌝ }
 {
     if settings_length(s.len()) {} else {
         return Settings {
             own: 0,
+            network: 0,
             authentication: 0,
             association: 0,
             role: 0,
@@ -59,6 +63,7 @@ pub fn settings_in(s: &[u8]) -> Settings
     }
     Settings {
         own: address_at(s, 1),
+        network: address_at(s, 18),
         authentication: u16_at(s, 8),
         association: u16_at(s, 10),
         role: octet_at(s, 0),

@@ -1,15 +1,21 @@
 // Whether a row is well formed by itself: tested by its numbers, without making a record of it.
 use octets::address::valid;
 use octets::row::Row;
+use peer::fit::highest;
+use peer::fit::hold_fits;
 use peer::record::Record;
 use peer::settings::Settings;
+use peer::settings::answers;
+use peer::settings::asks;
+use peer::settings::associates;
 ghost use mathlib.Core.Path.{_≡_};
-ghost use mathlib.Core.Bool.{true, false, _&&_};
-ghost use lib.Dec.{leb};
+ghost use mathlib.Core.Bool.{true, false, not, _&&_};
+ghost use lib.Dec.{eqb, leb, ltb};
+ghost use Rattle.octets.specs.Pick.{pick};
 ghost use Rattle.peer.specs.Fit.{exchangeFits, queryFits, recordFits};
 ghost use Rattle.peer.specs.Query.{queryOf};
 ghost use Rattle.peer.specs.Record.{associates, exchangeOf, underWay};
-ghost use Rattle.peer.specs.Settings.{ap, station, settingsFit};
+ghost use Rattle.peer.specs.Settings.{roleAnswers, roleAsks, settingsFit};
 ghost use Rattle.table.specs.Rows.{queryNumbered, recordOf, rowNumbered};
 
 // Whether a row is well formed by itself, and whether it has a (re)association under way.
@@ -18,67 +24,56 @@ pub struct Standing {
     pub associating: bool,
 }
 
-fn unfit() -> Standing
-    ensures { λ r. ⌜ r ≡ record { fit = false; associating = false } ⌝ }
+// No (re)association.
+fn alone(fit: bool) -> Standing
+    ensures { λ r. ⌜ r ≡ record { fit = fit; associating = false } ⌝ }
 {
     Standing {
-        fit: false,
+        fit,
         associating: false,
     }
 }
 
-// An exchange, by its number, at an access point: none, authentication asked, or from State 2 on (re)association asked or awaiting.
-fn ap_standing(e: u8, state: u8, left: u16) -> Standing
-    ensures { λ r. ⌜ (r .fit ≡ (leb e 9 && exchangeFits (exchangeOf e) ap state left)) × (r .fit ≡ true → r .associating ≡ leb 2 (underWay (exchangeOf e))) ⌝ }
+// Whether an exchange is for a role, and has a time exactly if it was sent: from number 7 on.
+fn timing(role: u8, e: u8, left: u16) -> bool
+    ensures { λ r. ⌜ r ≡ pick (ltb e 7) (roleAnswers role && eqb left 0) (roleAsks role && not (eqb left 0)) ⌝ }
 {
-    if left != 0 {
-        return unfit();
-    }
-    if e < 2 {
-        return Standing {
-            fit: true,
-            associating: false,
-        };
-    }
-    if state < Record::STATE_2 {
-        return unfit();
-    }
-    if 6 < e {
-        return unfit();
-    }
-    Standing {
-        fit: e != 4,
-        associating: true,
+    if e < 7 {
+        if answers(role) { left == 0 } else { false }
+    } else {
+        if asks(role) { left != 0 } else { false }
     }
 }
 
-// The same at a station: none, authentication sent, or from State 2 on (re)association sent.
-fn station_standing(e: u8, state: u8, left: u16) -> Standing
-    ensures { λ r. ⌜ (r .fit ≡ (leb e 9 && exchangeFits (exchangeOf e) station state left)) × (r .fit ≡ true → r .associating ≡ leb 2 (underWay (exchangeOf e))) ⌝ }
+// An exchange, by its number, at a role: none; asked or awaiting, without a time, where requests are answered; sent, with one, where they are
+// made. A (re)association stands from State 2 on, where there is one.
+fn exchange_standing(role: u8, e: u8, state: u8, left: u16) -> Standing
+    ensures { λ r. ⌜ (r .fit ≡ (leb e 9 && exchangeFits (exchangeOf e) role state left)) × (r .fit ≡ true → r .associating ≡ leb 2 (underWay (exchangeOf e))) ⌝ }
 {
+    // Most rows end here.
     if e == 0 {
-        return Standing {
-            fit: left == 0,
-            associating: false,
-        };
+        return alone(left == 0);
     }
-    if left == 0 {
-        return unfit();
+    if timing(role, e, left) {} else {
+        return alone(false);
+    }
+    if e == 1 {
+        return alone(true);
     }
     if e == 7 {
-        return Standing {
-            fit: true,
-            associating: false,
-        };
+        return alone(true);
+    }
+    if associates(role) {} else {
+        return alone(false);
     }
     if state < Record::STATE_2 {
-        return unfit();
+        return alone(false);
     }
-    if e < 8 {
-        return unfit();
+    if 9 < e {
+        return alone(false);
     }
     Standing {
-        fit: e <= 9,
+        fit: e != 4,
         associating: true,
     }
 }
@@ -118,25 +113,22 @@ pub(crate) fn row_standing(s: Settings, r: Row) -> Standing
     ensures { λ x. ⌜ (x .fit ≡ (rowNumbered r && recordFits s (recordOf r))) × (x .fit ≡ true → x .associating ≡ associates (recordOf r)) ⌝ }
 {
     if r.state < Record::STATE_1 {
-        return unfit();
+        return alone(false);
     }
-    if Record::STATE_4 < r.state {
-        return unfit();
+    if highest(s.role) < r.state {
+        return alone(false);
     }
     if r.address == s.own {
-        return unfit();
+        return alone(false);
     }
     if valid(r.address) {} else {
-        return unfit();
+        return alone(false);
     }
     if query_standing(s, r.state, r.query, r.remaining) {} else {
-        return unfit();
+        return alone(false);
     }
-    if s.role != Settings::AP {
-        return station_standing(r.exchange, r.state, r.left);
+    if hold_fits(s.role, r.hold) {} else {
+        return alone(false);
     }
-    if r.hold != 0 {
-        return unfit();
-    }
-    ap_standing(r.exchange, r.state, r.left)
+    exchange_standing(s.role, r.exchange, r.state, r.left)
 }

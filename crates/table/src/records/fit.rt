@@ -9,9 +9,9 @@ use peer::record::Record;
 use peer::settings::Settings;
 ghost use mathlib.Core.Path.{_≡_};
 ghost use mathlib.Core.Bool.{_&&_, _||_};
-ghost use lib.Dec.{eqb, leb};
+ghost use lib.Dec.{leb};
 ghost use Rattle.peer.specs.Fit.{placeFits};
-ghost use Rattle.peer.specs.Settings.{ap, settingsFit};
+ghost use Rattle.peer.specs.Settings.{roleAnswers, settingsFit};
 ghost use Rattle.table.specs.Places.{allOf, addressesOf};
 ghost use Rattle.table.specs.Others.{associatedOf};
 ghost use Rattle.table.specs.Fit.{crowdOf, distinctOf, wellFormed};
@@ -64,7 +64,7 @@ pub fn survey(s: Settings, t: [Record; 32]) -> View
 
 // Whether all is well formed, by what one pass found.
 pub fn well(s: Settings, fit: bool, crowd: Counts, addresses: &[u64]) -> bool
-    ensures { λ r. ⌜ r ≡ (settingsFit s && (fit && (distinctOf (now (addresses .entry)) && (eqb (s .role) ap || (leb (crowd .joined) 1 && leb (crowd .associating) 1))))) ⌝ }
+    ensures { λ r. ⌜ r ≡ (settingsFit s && (fit && (distinctOf (now (addresses .entry)) && (roleAnswers (s .role) || (leb (crowd .joined) 1 && leb (crowd .associating) 1))))) ⌝ }
 {
     if s.fit() {} else {
         return false;

@@ -16,6 +16,7 @@ use crate::rules::seat::settled;
 use octets::frame::Frame;
 use peer::record::Record;
 use peer::settings::Settings;
+use peer::settings::associates;
 use peer::turn::Turn;
 ghost use mathlib.Core.Path.{_≡_};
 ghost use lib.ListN.{length};
@@ -62,7 +63,7 @@ fn received(s: Settings, t: [Record; 32], frame: &[u8], room: usize) -> Change
     if well(s, v.fit, v.crowd, &addresses) {} else {
         return refused(2);
     }
-    heard_at(s, t, &addresses, read(s.own, frame))
+    heard_at(s, t, &addresses, read(s.own, associates(s.role), frame))
 }
 
 // A received frame: the table after it, the answer, and the reply in the buffer.

@@ -1,12 +1,13 @@
 // What the rules ask of the whole table: how many have joined or are about to, and, at a station, which one has.
 use peer::refuse::Others;
 use peer::settings::Settings;
+use peer::settings::answers;
 ghost use mathlib.Core.Path.{_≡_};
 ghost use mathlib.Core.Bool.{_&&_, _||_};
-ghost use lib.Dec.{eqb, leb};
+ghost use lib.Dec.{leb};
 ghost use Prim.Native.Nat.{_+_, _<_};
 ghost use Rattle.octets.specs.Pick.{pick};
-ghost use Rattle.peer.specs.Settings.{ap};
+ghost use Rattle.peer.specs.Settings.{roleAnswers};
 ghost use Rattle.table.specs.Others.{associatedOf, othersOf};
 ghost use Rattle.table.specs.Fit.{crowdOf};
 ghost use mathlib.Core.List.{List};
@@ -35,9 +36,9 @@ pub(crate) fn first_joined(joined: bool, address: u64, behind: u64) -> u64
 
 // Whether a station has at most one record in State 3 or 4 and at most one (re)association under way.
 pub(crate) fn sparse(s: Settings, c: Counts) -> bool
-    ensures { λ r. ⌜ r ≡ (eqb (s .role) ap || (leb (c .joined) 1 && leb (c .associating) 1)) ⌝ }
+    ensures { λ r. ⌜ r ≡ (roleAnswers (s .role) || (leb (c .joined) 1 && leb (c .associating) 1)) ⌝ }
 {
-    if s.role == Settings::AP {
+    if answers(s.role) {
         return true;
     }
     if 1 < c.joined {
@@ -50,7 +51,7 @@ pub(crate) fn sparse(s: Settings, c: Counts) -> bool
 pub(crate) fn others(s: Settings, associated: u64, crowd: Counts) -> Others
     ensures { λ r. ⌜ ((t : List Peer) → associated ≡ associatedOf t → crowd ≡ crowdOf t → r ≡ othersOf s t) ⌝ }
 {
-    if s.role == Settings::AP {
+    if answers(s.role) {
         return Others {
             associated: 0,
             busy: false,

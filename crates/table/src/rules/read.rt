@@ -2,7 +2,7 @@
 use octets::address::group;
 use octets::address::valid;
 use octets::class::FrameClass;
-use octets::class::class;
+use octets::class::class_in;
 use octets::element::broken;
 use octets::field::address_at;
 use octets::heard::Heard;
@@ -48,8 +48,8 @@ fn read_bare(own: u64, frame: &[u8]) -> Reading
 }
 
 // A frame from a peer: its elements are looked at before its class.
-fn read_from(peer: u64, to: u64, frame: &[u8]) -> Reading
-    ensures { λ r. ⌜ r ≡ readFrom peer to (now (frame .entry)) ⌝ }
+fn read_from(infrastructure: bool, peer: u64, to: u64, frame: &[u8]) -> Reading
+    ensures { λ r. ⌜ r ≡ readFrom infrastructure peer to (now (frame .entry)) ⌝ }
 {
     if broken(frame) {
         return Reading::Refused(3); // 02, K7
@@ -57,13 +57,13 @@ fn read_from(peer: u64, to: u64, frame: &[u8]) -> Reading
     Reading::From {
         peer,
         group: group(to),
-        class: class(frame),
+        class: class_in(infrastructure, frame),
         heard: octets::heard::read(frame),
     }
 }
 
-fn read_full(own: u64, frame: &[u8]) -> Reading
-    ensures { λ r. ⌜ r ≡ readFull own (now (frame .entry)) ⌝ }
+fn read_full(own: u64, infrastructure: bool, frame: &[u8]) -> Reading
+    ensures { λ r. ⌜ r ≡ readFull own infrastructure (now (frame .entry)) ⌝ }
 {
     let to = address_at(frame, 4);
     if for_us(own, to) {} else {
@@ -74,20 +74,21 @@ fn read_full(own: u64, frame: &[u8]) -> Reading
         return Reading::Refused(3);
     }
     if valid(peer) {
-        read_from(peer, to, frame)
+        read_from(infrastructure, peer, to, frame)
     } else {
         Reading::Refused(3)
     }
 }
 
-pub fn read(own: u64, frame: &[u8]) -> Reading
-    ensures { λ r. ⌜ r ≡ readOf own (now (frame .entry)) ⌝ }
+// A frame, where there are access points or in an ad hoc network.
+pub fn read(own: u64, infrastructure: bool, frame: &[u8]) -> Reading
+    ensures { λ r. ⌜ r ≡ readOf own infrastructure (now (frame .entry)) ⌝ }
 {
     let shape = measure(frame);
     match shape {
         Shape::Misfit => Reading::Refused(3),
         Shape::Classless => Reading::Discarded,
         Shape::Bare => read_bare(own, frame),
-        Shape::Full => read_full(own, frame),
+        Shape::Full => read_full(own, infrastructure, frame),
     }
 }

@@ -10,6 +10,13 @@ returns : tie.Need-returns
 unfolding barredOf
 returns c = search (tests, c .if1 .taken)
 
+associates-requires : tie.Need-associates-requires
+associates-requires c κs = search needs
+
+returns-2 : tie.Need-returns-2
+unfolding barredOf
+returns-2 c = search (tests, c .if2 .left, ← c .before .associates .ensures, c .before .before .if1 .left)
+
 enum-told : tie.Need-enum-told
 enum-told c = search needs
 
@@ -58,43 +65,45 @@ enum-told-7 c = search needs
 filtered-requires-7 : tie.Need-filtered-requires-7
 filtered-requires-7 c κs = search needs
 
-returns-2 : tie.Need-returns-2
-unfolding barredOf
-returns-2 c = search (tests, ← c .filtered .ensures, c .before .before .before .if1 .left, c .before .enum-told .given .1)
-
 returns-3 : tie.Need-returns-3
 unfolding barredOf
-returns-3 c = search (tests, ← c .filtered2 .ensures, c .before .before .before .if1 .left, c .before .enum-told2 .given .1)
+returns-3 c = search (tests, ← c .filtered .ensures, c .before .before .before .if2 .taken, ← c .before .before .before .before .associates .ensures, c .before .before .before .before .before .if1 .left, c .before .enum-told .given .1)
 
 returns-4 : tie.Need-returns-4
 unfolding barredOf
-returns-4 c = search (tests, ← c .filtered3 .ensures, c .before .before .before .if1 .left, c .before .enum-told3 .given .1)
+returns-4 c = search (tests, ← c .filtered2 .ensures, c .before .before .before .if2 .taken, ← c .before .before .before .before .associates .ensures, c .before .before .before .before .before .if1 .left, c .before .enum-told2 .given .1)
 
 returns-5 : tie.Need-returns-5
 unfolding barredOf
-returns-5 c = search (tests, ← c .filtered4 .ensures, c .before .before .before .if1 .left, c .before .enum-told4 .given .1)
+returns-5 c = search (tests, ← c .filtered3 .ensures, c .before .before .before .if2 .taken, ← c .before .before .before .before .associates .ensures, c .before .before .before .before .before .if1 .left, c .before .enum-told3 .given .1)
 
 returns-6 : tie.Need-returns-6
 unfolding barredOf
-returns-6 c = search (tests, ← c .request-barred .ensures, c .before .before .before .before .if1 .left, c .before .before .h .given .1)
+returns-6 c = search (tests, ← c .filtered4 .ensures, c .before .before .before .if2 .taken, ← c .before .before .before .before .associates .ensures, c .before .before .before .before .before .if1 .left, c .before .enum-told4 .given .1)
 
 returns-7 : tie.Need-returns-7
 unfolding barredOf
-returns-7 c = search (tests, ← c .filtered5 .ensures, c .before .before .before .if1 .left, c .before .enum-told5 .given .1)
+returns-7 c = search (tests, ← c .request-barred .ensures, c .before .before .before .before .if2 .taken, ← c .before .before .before .before .before .associates .ensures, c .before .before .before .before .before .before .if1 .left, c .before .before .h .given .1)
 
 returns-8 : tie.Need-returns-8
 unfolding barredOf
-returns-8 c = search (tests, ← c .filtered6 .ensures, c .before .before .before .if1 .left, c .before .enum-told6 .given .1)
+returns-8 c = search (tests, ← c .filtered5 .ensures, c .before .before .before .if2 .taken, ← c .before .before .before .before .associates .ensures, c .before .before .before .before .before .if1 .left, c .before .enum-told5 .given .1)
 
 returns-9 : tie.Need-returns-9
 unfolding barredOf
-returns-9 c = search (tests, ← c .filtered7 .ensures, c .before .before .before .if1 .left, c .before .enum-told7 .given .1)
+returns-9 c = search (tests, ← c .filtered6 .ensures, c .before .before .before .if2 .taken, ← c .before .before .before .before .associates .ensures, c .before .before .before .before .before .if1 .left, c .before .enum-told6 .given .1)
+
+returns-10 : tie.Need-returns-10
+unfolding barredOf
+returns-10 c = search (tests, ← c .filtered7 .ensures, c .before .before .before .if2 .taken, ← c .before .before .before .before .associates .ensures, c .before .before .before .before .before .if1 .left, c .before .enum-told7 .given .1)
 
 pub barred-spec : {M : Type 1} → statement M
 barred-spec =
     tie.close
     (tie.spec
     returns
+    associates-requires
+    returns-2
     enum-told
     filtered-requires
     enum-told-2
@@ -111,11 +120,11 @@ barred-spec =
     filtered-requires-6
     enum-told-7
     filtered-requires-7
-    returns-2
     returns-3
     returns-4
     returns-5
     returns-6
     returns-7
     returns-8
-    returns-9)
+    returns-9
+    returns-10)

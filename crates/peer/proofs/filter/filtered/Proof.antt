@@ -27,10 +27,10 @@ disassociation-requires : tie.Need-disassociation-requires
 disassociation-requires c κs = search needs
 
 returns : tie.Need-returns
-returns c = search needs
+returns c = search (tests, c .enum-told .given .1)
 
 returns-2 : tie.Need-returns-2
-returns-2 c = search needs
+returns-2 c = search (tests, c .enum-told2 .given .1)
 
 returns-3 : tie.Need-returns-3
 returns-3 c = search (tests, ← c .deauthentication .ensures, c .before .enum-told3 .given .1)

@@ -10,47 +10,51 @@ returns : tie.Need-returns
 unfolding recordFits
 returns c = search tests
 
+highest-requires : tie.Need-highest-requires
+highest-requires c κs = search needs
+
 returns-2 : tie.Need-returns-2
 unfolding recordFits
-returns-2 c = search tests
+returns-2 c = search (tests, ← c .before .highest .ensures)
 
 returns-3 : tie.Need-returns-3
 unfolding recordFits
-returns-3 c = search tests
+returns-3 c = search (tests, ← c .before .before .before .highest .ensures)
 
 valid-requires : tie.Need-valid-requires
 valid-requires c κs = search needs
 
 returns-4 : tie.Need-returns-4
 unfolding recordFits
-returns-4 c = search (tests, ← c .before .valid .ensures, c .if4 .left, c .before .before .if3 .left, c .before .before .before .before .if2 .left, c .before .before .before .before .before .if1 .left)
+returns-4 c = search (tests, ← c .before .valid .ensures, c .if4 .left, c .before .before .if3 .left, c .before .before .before .before .if2 .left, ← c .before .before .before .before .before .highest .ensures, c .before .before .before .before .before .before .if1 .left)
 
 hold-fits-requires : tie.Need-hold-fits-requires
 hold-fits-requires c κs = search needs
 
 returns-5 : tie.Need-returns-5
 unfolding recordFits
-returns-5 c = search (tests, ← c .before .hold-fits .ensures, ← c .before .before .before .valid .ensures, c .if5 .left, c .before .before .if4 .taken, c .before .before .before .before .if3 .left, c .before .before .before .before .before .before .if2 .left, c .before .before .before .before .before .before .before .if1 .left)
+returns-5 c = search (tests, ← c .before .hold-fits .ensures, ← c .before .before .before .valid .ensures, c .if5 .left, c .before .before .if4 .taken, c .before .before .before .before .if3 .left, c .before .before .before .before .before .before .if2 .left, ← c .before .before .before .before .before .before .before .highest .ensures, c .before .before .before .before .before .before .before .before .if1 .left)
 
 exchange-fits-requires : tie.Need-exchange-fits-requires
 exchange-fits-requires c κs = search needs
 
 returns-6 : tie.Need-returns-6
 unfolding recordFits
-returns-6 c = search (tests, ← c .before .exchange-fits .ensures, ← c .before .before .before .hold-fits .ensures, ← c .before .before .before .before .before .valid .ensures, c .if6 .left, c .before .before .if5 .taken, c .before .before .before .before .if4 .taken, c .before .before .before .before .before .before .if3 .left, c .before .before .before .before .before .before .before .before .if2 .left, c .before .before .before .before .before .before .before .before .before .if1 .left)
+returns-6 c = search (tests, ← c .before .exchange-fits .ensures, ← c .before .before .before .hold-fits .ensures, ← c .before .before .before .before .before .valid .ensures, c .if6 .left, c .before .before .if5 .taken, c .before .before .before .before .if4 .taken, c .before .before .before .before .before .before .if3 .left, c .before .before .before .before .before .before .before .before .if2 .left, ← c .before .before .before .before .before .before .before .before .before .highest .ensures, c .before .before .before .before .before .before .before .before .before .before .if1 .left)
 
 query-allowed-requires : tie.Need-query-allowed-requires
 query-allowed-requires c κs = search needs
 
 returns-7 : tie.Need-returns-7
 unfolding recordFits
-returns-7 c = search (tests, ← c .query-allowed .ensures, ← c .before .before .exchange-fits .ensures, ← c .before .before .before .before .hold-fits .ensures, ← c .before .before .before .before .before .before .valid .ensures, c .before .if6 .taken, c .before .before .before .if5 .taken, c .before .before .before .before .before .if4 .taken, c .before .before .before .before .before .before .before .if3 .left, c .before .before .before .before .before .before .before .before .before .if2 .left, c .before .before .before .before .before .before .before .before .before .before .if1 .left)
+returns-7 c = search (tests, ← c .query-allowed .ensures, ← c .before .before .exchange-fits .ensures, ← c .before .before .before .before .hold-fits .ensures, ← c .before .before .before .before .before .before .valid .ensures, c .before .if6 .taken, c .before .before .before .if5 .taken, c .before .before .before .before .before .if4 .taken, c .before .before .before .before .before .before .before .if3 .left, c .before .before .before .before .before .before .before .before .before .if2 .left, ← c .before .before .before .before .before .before .before .before .before .before .highest .ensures, c .before .before .before .before .before .before .before .before .before .before .before .if1 .left)
 
 pub record-fits-spec : {M : Type 1} → statement M
 record-fits-spec =
     tie.close
     (tie.spec
     returns
+    highest-requires
     returns-2
     returns-3
     valid-requires

@@ -10,20 +10,23 @@ use borrow.Author.Needs.{needs}
 use Rattle.peer.proofs.fit.sent_fits.Statement.{statement}
 use Rattle.peer.proofs.fit.sent_fits.Tie as tie
 
+asks-requires : tie.Need-asks-requires
+asks-requires c κs = search needs
+
 returns : tie.Need-returns
-unfolding sentFits
-returns c = search tests
+unfolding sentFits timeFits
+returns c = search (tests, c .if1 .left, ← c .before .asks .ensures)
 
 returns-2 : tie.Need-returns-2
 unfolding sentFits timeFits
-returns-2 c = search tests
+returns-2 c = search (tests, c .before .if1 .taken, ← c .before .before .asks .ensures)
 
 standing-requires : tie.Need-standing-requires
 standing-requires c κs = search needs
 
 returns-3 : tie.Need-returns-3
 unfolding sentFits timeFits
-returns-3 c = let top : c .before .before .before .args .left ≤ 65535 = omega arith in search (tests, ← c .standing .ensures)
+returns-3 c = let top : c .before .before .before .before .args .left ≤ 65535 = omega arith in search (tests, ← c .standing .ensures, c .before .before .if1 .taken, ← c .before .before .before .asks .ensures)
 
 pub sent-fits-spec : {M : Type 1} → statement M
-sent-fits-spec = tie.close (tie.spec returns returns-2 standing-requires returns-3)
+sent-fits-spec = tie.close (tie.spec asks-requires returns returns-2 standing-requires returns-3)

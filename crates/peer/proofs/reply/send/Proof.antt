@@ -6,12 +6,12 @@ use borrow.Author.Needs.{needs}
 use Rattle.peer.proofs.reply.send.Statement.{statement}
 use Rattle.peer.proofs.reply.send.Tie as tie
 
-ap-address-requires : tie.Need-ap-address-requires
-ap-address-requires c κs = search needs
+network-address-requires : tie.Need-network-address-requires
+network-address-requires c κs = search needs
 
 returns : tie.Need-returns
 unfolding sendOf
-returns c = search (tests, ← c .ap-address .ensures)
+returns c = search (tests, ← c .network-address .ensures)
 
 pub send-spec : {M : Type 1} → statement M
-send-spec = tie.close (tie.spec ap-address-requires returns)
+send-spec = tie.close (tie.spec network-address-requires returns)

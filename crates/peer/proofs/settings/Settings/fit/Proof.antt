@@ -6,7 +6,7 @@ use mathlib.Core.Path.{_≡_}
 use mathlib.Core.Bool.{_&&_, false}
 use borrow.Author.Tests.{le-leb, lt-leb, ne-eqb}
 use Rattle.octets.specs.Address.{validOf}
-use Rattle.peer.specs.Settings.{queryTimesFit, settingsFit, timeFits}
+use Rattle.peer.specs.Settings.{networkFits, queryTimesFit, settingsFit, timeFits}
 use Rattle.peer.specs.declared.settings.Settings.{Settings}
 use native.Mathlib.Omega.{arith}
 use Prim.Native.Nat.{_≤_, _<_}
@@ -55,13 +55,13 @@ returns-7 c =
 
 -- an edition above 2
 over :
-    (s : Settings) → (s .role ≡ 0 → ⊥) → s .role ≤ 2 → s .rsna ≤ 1 → (s .authentication ≡ 0 → ⊥) → s .authentication ≤ 65535 → (s .association ≡ 0 → ⊥)
+    (s : Settings) → (s .role ≡ 0 → ⊥) → s .role ≤ 3 → s .rsna ≤ 1 → (s .authentication ≡ 0 → ⊥) → s .authentication ≤ 65535 → (s .association ≡ 0 → ⊥)
     → s .association ≤ 65535 → s .protection ≤ 1 → (s .edition ≡ 0 → ⊥) → 2 < s .edition → settingsFit s ≡ false
 unfolding settingsFit timeFits
 over s a b c d e f g h i j =
     rw (
       ne-eqb (s .role) 0 a,
-      le-leb (s .role) 2 b,
+      le-leb (s .role) 3 b,
       le-leb (s .rsna) 1 c,
       ne-eqb (s .authentication) 0 d,
       le-leb (s .authentication) 65535 e,
@@ -79,13 +79,13 @@ returns-8 c =
 
 -- what the first eight tests have shown
 front :
-    (s : Settings) → (s .role ≡ 0 → ⊥) → s .role ≤ 2 → s .rsna ≤ 1 → (s .authentication ≡ 0 → ⊥) → s .authentication ≤ 65535 → (s .association ≡ 0 → ⊥)
-    → s .association ≤ 65535 → s .protection ≤ 1 → (s .edition ≡ 0 → ⊥) → s .edition ≤ 2 → settingsFit s ≡ (queryTimesFit s && validOf (s .own))
+    (s : Settings) → (s .role ≡ 0 → ⊥) → s .role ≤ 3 → s .rsna ≤ 1 → (s .authentication ≡ 0 → ⊥) → s .authentication ≤ 65535 → (s .association ≡ 0 → ⊥)
+    → s .association ≤ 65535 → s .protection ≤ 1 → (s .edition ≡ 0 → ⊥) → s .edition ≤ 2 → settingsFit s ≡ (queryTimesFit s && (networkFits s && validOf (s .own)))
 unfolding settingsFit timeFits
 front s a b c d e f g h i j =
     rw (
       ne-eqb (s .role) 0 a,
-      le-leb (s .role) 2 b,
+      le-leb (s .role) 3 b,
       le-leb (s .rsna) 1 c,
       ne-eqb (s .authentication) 0 d,
       le-leb (s .authentication) 65535 e,
@@ -104,13 +104,21 @@ returns-9 c =
     let e = c .before .before .before .before .before .before .before .before .before .before .before .before .before .before .before .before .before .before in
     rw (front (c .before .before .before .before .before .before .before .before .before .before .before .before .before .before .before .before .before .before .args .self) (c .before .before .before .before .before .before .before .before .before .before .before .before .before .before .before .before .if1 .left) (c .before .before .before .before .before .before .before .before .before .before .before .before .before .before .if2 .left) (c .before .before .before .before .before .before .before .before .before .before .before .before .if3 .left) (c .before .before .before .before .before .before .before .before .before .before .if4 .left) (omega arith) (c .before .before .before .before .before .before .before .before .if5 .left) (omega arith) (c .before .before .before .before .before .before .if6 .left) (c .before .before .before .before .if7 .left) (c .before .before .if8 .left), ← c .before .query-times-fit .ensures, c .if9 .left)
 
-valid-requires : tie.Need-valid-requires
-valid-requires c κs = search needs
+network-fits-requires : tie.Need-network-fits-requires
+network-fits-requires c κs = search needs
 
 returns-10 : tie.Need-returns-10
 returns-10 c =
-    let e = c .before .before .before .before .before .before .before .before .before .before .before .before .before .before .before .before .before .before .before in
-    rw (front (c .before .before .before .before .before .before .before .before .before .before .before .before .before .before .before .before .before .before .before .args .self) (c .before .before .before .before .before .before .before .before .before .before .before .before .before .before .before .before .before .if1 .left) (c .before .before .before .before .before .before .before .before .before .before .before .before .before .before .before .if2 .left) (c .before .before .before .before .before .before .before .before .before .before .before .before .before .if3 .left) (c .before .before .before .before .before .before .before .before .before .before .before .if4 .left) (omega arith) (c .before .before .before .before .before .before .before .before .before .if5 .left) (omega arith) (c .before .before .before .before .before .before .before .if6 .left) (c .before .before .before .before .before .if7 .left) (c .before .before .before .if8 .left), ← c .before .before .query-times-fit .ensures, c .before .if9 .taken) (c .valid .ensures)
+    let e = c .before .before .before .before .before .before .before .before .before .before .before .before .before .before .before .before .before .before .before .before in
+    rw (front (c .before .before .before .before .before .before .before .before .before .before .before .before .before .before .before .before .before .before .before .before .args .self) (c .before .before .before .before .before .before .before .before .before .before .before .before .before .before .before .before .before .before .if1 .left) (c .before .before .before .before .before .before .before .before .before .before .before .before .before .before .before .before .if2 .left) (c .before .before .before .before .before .before .before .before .before .before .before .before .before .before .if3 .left) (c .before .before .before .before .before .before .before .before .before .before .before .before .if4 .left) (omega arith) (c .before .before .before .before .before .before .before .before .before .before .if5 .left) (omega arith) (c .before .before .before .before .before .before .before .before .if6 .left) (c .before .before .before .before .before .before .if7 .left) (c .before .before .before .before .if8 .left), ← c .before .before .before .query-times-fit .ensures, c .before .before .if9 .taken, ← c .before .network-fits .ensures, c .if10 .left)
+
+valid-requires : tie.Need-valid-requires
+valid-requires c κs = search needs
+
+returns-11 : tie.Need-returns-11
+returns-11 c =
+    let e = c .before .before .before .before .before .before .before .before .before .before .before .before .before .before .before .before .before .before .before .before .before in
+    rw (front (c .before .before .before .before .before .before .before .before .before .before .before .before .before .before .before .before .before .before .before .before .before .args .self) (c .before .before .before .before .before .before .before .before .before .before .before .before .before .before .before .before .before .before .before .if1 .left) (c .before .before .before .before .before .before .before .before .before .before .before .before .before .before .before .before .before .if2 .left) (c .before .before .before .before .before .before .before .before .before .before .before .before .before .before .before .if3 .left) (c .before .before .before .before .before .before .before .before .before .before .before .before .before .if4 .left) (omega arith) (c .before .before .before .before .before .before .before .before .before .before .before .if5 .left) (omega arith) (c .before .before .before .before .before .before .before .before .before .if6 .left) (c .before .before .before .before .before .before .before .if7 .left) (c .before .before .before .before .before .if8 .left), ← c .before .before .before .before .query-times-fit .ensures, c .before .before .before .if9 .taken, ← c .before .before .network-fits .ensures, c .before .if10 .taken) (c .valid .ensures)
 
 pub fit-spec : {M : Type 1} → statement M
 fit-spec =
@@ -126,5 +134,7 @@ fit-spec =
     returns-8
     query-times-fit-requires
     returns-9
+    network-fits-requires
+    returns-10
     valid-requires
-    returns-10)
+    returns-11)

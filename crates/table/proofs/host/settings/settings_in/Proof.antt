@@ -15,6 +15,9 @@ returns c = rw (← c .before .settings-length .ensures, c .if1 .left)
 address-at-requires : tie.Need-address-at-requires
 address-at-requires c κs = search needs
 
+address-at-requires-2 : tie.Need-address-at-requires-2
+address-at-requires-2 c κs = search needs
+
 u16-at-requires : tie.Need-u16-at-requires
 u16-at-requires c κs = search needs
 
@@ -41,7 +44,7 @@ maximum-in-requires c κs = search needs
 
 returns-2 : tie.Need-returns-2
 unfolding settingsIn
-returns-2 c = rw (← c .before .before .before .before .before .before .before .before .before .before .settings-length .ensures, c .before .before .before .before .before .before .before .before .before .if1 .taken, ← c .before .before .before .before .before .before .before .before .address-at .ensures, ← c .before .before .before .before .before .before .before .u16-at .ensures, ← c .before .before .before .before .before .before .u16-at2 .ensures, ← c .before .before .before .before .before .octet-at .ensures, ← c .before .before .before .before .octet-at2 .ensures, ← c .before .before .before .edition-in .ensures, ← c .before .before .octet-at3 .ensures, ← c .before .retry-in .ensures, ← c .maximum-in .ensures)
+returns-2 c = rw (← c .before .before .before .before .before .before .before .before .before .before .before .settings-length .ensures, c .before .before .before .before .before .before .before .before .before .before .if1 .taken, ← c .before .before .before .before .before .before .before .before .before .address-at .ensures, ← c .before .before .before .before .before .before .before .before .address-at2 .ensures, ← c .before .before .before .before .before .before .before .u16-at .ensures, ← c .before .before .before .before .before .before .u16-at2 .ensures, ← c .before .before .before .before .before .octet-at .ensures, ← c .before .before .before .before .octet-at2 .ensures, ← c .before .before .before .edition-in .ensures, ← c .before .before .octet-at3 .ensures, ← c .before .retry-in .ensures, ← c .maximum-in .ensures)
 
 pub settings-in-spec : {M : Type 1} → statement M
 settings-in-spec =
@@ -50,6 +53,7 @@ settings-in-spec =
     settings-length-requires
     returns
     address-at-requires
+    address-at-requires-2
     u16-at-requires
     u16-at-requires-2
     octet-at-requires

@@ -17,5 +17,9 @@ returns-3 : tie.Need-returns-3
 unfolding settingsLength
 returns-3 c = search tests
 
+returns-4 : tie.Need-returns-4
+unfolding settingsLength
+returns-4 c = search tests
+
 pub settings-length-spec : {M : Type 1} → statement M
-settings-length-spec = tie.close (tie.spec returns returns-2 returns-3)
+settings-length-spec = tie.close (tie.spec returns returns-2 returns-3 returns-4)

@@ -39,6 +39,9 @@ returns-2 c =
 slice-aggregate-heard-at : tie.Need-slice-aggregate-heard-at
 slice-aggregate-heard-at c = search needs
 
+associates-requires : tie.Need-associates-requires
+associates-requires c κs = tt
+
 read-requires : tie.Need-read-requires
 read-requires c κs = tt
 
@@ -47,7 +50,7 @@ heard-at-requires c κs = tt
 
 returns-3 : tie.Need-returns-3
 unfolding receivedOf
-returns-3 c = rw (le-ltb _ _ (c .before .before .before .before .before .before .before .before .if1 .left), ← well-of (c .before .before .before .before .before .before .before .before .before .before .args .s) (c .before .before .before .before .before .before .before .before .before .before .args .t) (c .before .before .before .before .before .before .before .survey .result) (c .before .before .before .before .before .before .before .survey .ensures) _ (c .before .before .before .before .well .ensures), c .before .before .before .if2 .taken, ← c .before .before .before .before .before .before .before .survey .ensures .3, ← c .before .read .ensures) (c .heard-at .ensures)
+returns-3 c = rw (le-ltb _ _ (c .before .before .before .before .before .before .before .before .before .if1 .left), ← well-of (c .before .before .before .before .before .before .before .before .before .before .before .args .s) (c .before .before .before .before .before .before .before .before .before .before .before .args .t) (c .before .before .before .before .before .before .before .before .survey .result) (c .before .before .before .before .before .before .before .before .survey .ensures) _ (c .before .before .before .before .before .well .ensures), c .before .before .before .before .if2 .taken, ← c .before .before .before .before .before .before .before .before .survey .ensures .3, ← c .before .before .associates .ensures, ← c .before .read .ensures) (c .heard-at .ensures)
 
 pub received-spec : {M : Type 1} → statement M
 received-spec =
@@ -61,6 +64,7 @@ received-spec =
     refused-requires-2
     returns-2
     slice-aggregate-heard-at
+    associates-requires
     read-requires
     heard-at-requires
     returns-3)
