@@ -12,7 +12,7 @@
  *     if (a.written > 0)
  *         radio_send(out, a.written);                                // a.verdict says whether the frame itself goes up
  *     if (a.notice == PEER_AUTHENTICATION_INDICATION) {
- *         a = peer_ask(&table, &ap, PEER_AUTHENTICATE_RESPONSE, peer_sender(frame), PEER_STATUS_SUCCESS, out, sizeof out);
+ *         a = peer_ask(&table, &ap, PEER_AUTHENTICATE_RESPONSE, peer_device(&table, peer_sender(frame)), PEER_STATUS_SUCCESS, out, sizeof out);
  *         if (a.refusal == PEER_DONE)
  *             radio_send(out, a.written);
  *     }
@@ -24,6 +24,7 @@
  *            hoc network the network's address. A host from before there were editions, queries or ad hoc networks may go on with 12, 14 or 18
  *            octets in the calls of peer_table_octets.h.
  *   frame    read only, without FCS, any contents, any length; over 4,096 octets is refusal 3.
+ *   links    read only: as many as the count says, at most four.
  *   out      written from its first octet; only the first `written` octets change. At least 37 octets, 256 for peer_pass; more is fine.
  * No pointer may be null, also with length 0. Each points to as many octets as its length says; nothing beyond is read or written. They
  * must not overlap. While a call runs, nothing else may write to what it was lent.
@@ -32,10 +33,18 @@
  *   A refusal (1 to 9) has every other field 0 and leaves all octets of table and out as they were.
  *   Everything else is done at once: the frame in `out` is to be sent, the notice is to be passed on, the table is the new one.
  *
+ * Devices with several links
+ *   A peer of an AP may be a device that joins once and speaks over one to four links, each with an address of its own: one record, one state,
+ *   one AID. Before it joins, in State 1, peer_links names them. From then on a frame from any of them, or from the device's own address, is
+ *   the device's, and what is written at once in reply goes to the address it came from. What our side asks names the device, never a link
+ *   (refusal 3), and is sent to its first link, whichever link was heard last. Timeouts and reports name the device. A record with links is
+ *   freed by no clock step: name none (count 0) and the next step may. No address is of two devices, nor twice of one.
+ *
  * What the host must do itself
  *   - Answer each indication, by PEER_.._RESPONSE with any status, and report whether the peer acknowledged the answer to a
  *     (re)association (PEER_TRANSMIT_REPORT). The places of an AP and in an ad hoc network do not age: a peer that only asked keeps its place
- *     until it is answered, an authenticated one until it is deauthenticated. A place is freed by the next clock step.
+ *     until it is answered, an authenticated one until it is deauthenticated, one with links until they are taken away. A place is freed by the
+ *     next clock step.
  *   - Count time: the library has no clock. peer_pass is told how many TU passed; the timeouts of what was sent, a station's holds and an
  *     AP's queries run by it alone.
  *   - Ask again: nothing is repeated. After a timeout or a rejection the host decides whether and when it asks once more. In an ad hoc network
@@ -50,6 +59,7 @@
  *     is written. A response ends the query. After PEER_KIND_QUERY_TIMED_OUT the peer's next request passes, and is indicated as any other.
  *   - Protect the frames: keys are not the library's, and the Protected bit is looked at for Public Action frames alone. The host protects
  *     the farewells and queries that it sends to a peer in State 4 where protection is in use, and hands on none from it that is not.
+ *   - Find the device: an indication does not say whose it is. peer_device gives it by the frame's sender, and is what an answer names.
  *   - Tell true from false for the rest: who sent a frame is taken from its Address 2. With edition 1, without protection, or in an ad hoc
  *     network a forged farewell or request is obeyed.
  *
@@ -101,7 +111,7 @@ typedef struct {
 
 /* One place of the table. A free place is all zero. */
 typedef struct {
-    uint64_t address;
+    uint64_t address; /* the peer's; the device's where it has links */
     uint32_t hold;    /* TU until this AP may be asked to join again; 0 at an AP; in an ad hoc network nothing sets it */
     uint16_t left;    /* TU until the exchange sent times out; else 0 */
     uint8_t state;
@@ -109,6 +119,7 @@ typedef struct {
     uint16_t identifier; /* of the last SA Query that was begun; 0 before the first, and behind 65,535 */
     uint16_t query_left; /* TU until the query times out; 0 where none runs */
     uint32_t query;      /* PEER_NO_QUERY to PEER_QUERY_TIMED_OUT */
+    uint8_t links[PEER_LINKS][PEER_ADDRESS_OCTETS]; /* of a device at an AP, from the first on; zero behind the last */
 } peer_record;
 
 typedef struct {
@@ -134,41 +145,7 @@ typedef char peer_answer_is_octets[sizeof(peer_answer) == PEER_ANSWER_OCTETS && 
 typedef char peer_table_is_octets[sizeof(peer_record) == PEER_RECORD_OCTETS && offsetof(peer_record, hold) == 8 &&
     offsetof(peer_record, left) == 12 && offsetof(peer_record, state) == 14 && offsetof(peer_record, exchange) == 15 &&
     offsetof(peer_record, identifier) == 16 && offsetof(peer_record, query_left) == 18 && offsetof(peer_record, query) == 20 &&
-    sizeof(peer_table) == PEER_TABLE_OCTETS ? 1 : -1];
-
-/* A frame was received. Its sender is the peer; CTS, ACK and frames without a class name none. */
-static inline peer_answer peer_receive(peer_table *table, const peer_settings *settings, const uint8_t *frame, size_t frame_octets,
-                                       uint8_t *out, size_t out_octets)
-{
-    peer_answer answer;
-
-    peer_receive_octets((uint8_t *)table, sizeof *table, (const uint8_t *)settings, sizeof *settings, frame, frame_octets,
-                        out, out_octets, (uint8_t *)&answer, sizeof answer);
-    return answer;
-}
-
-/* Our own side asks for something: one of the eleven primitives, for the peer of this address. */
-static inline peer_answer peer_ask(peer_table *table, const peer_settings *settings, uint8_t primitive, uint64_t address,
-                                   uint16_t code, uint8_t *out, size_t out_octets)
-{
-    peer_answer answer;
-
-    peer_ask_octets((uint8_t *)table, sizeof *table, (const uint8_t *)settings, sizeof *settings, primitive, address, code,
-                    out, out_octets, (uint8_t *)&answer, sizeof answer);
-    return answer;
-}
-
-/* Time passed: 1 to 65,535 TU. Each exchange that timed out, each query that is due again or timed out stands in out, in rising place, one
-   a record: peer_timeout_at reads one, there are written / PEER_TIMEOUT_OCTETS of them. Records with nothing left to keep are freed here
-   and only here. */
-static inline peer_answer peer_pass(peer_table *table, const peer_settings *settings, uint16_t step, uint8_t *out, size_t out_octets)
-{
-    peer_answer answer;
-
-    peer_pass_octets((uint8_t *)table, sizeof *table, (const uint8_t *)settings, sizeof *settings, step,
-                     out, out_octets, (uint8_t *)&answer, sizeof answer);
-    return answer;
-}
+    offsetof(peer_record, links) == 24 && sizeof(peer_table) == PEER_TABLE_OCTETS ? 1 : -1];
 
 /* Six octets as a number. */
 static inline uint64_t peer_address_read(const uint8_t *octets)
@@ -190,6 +167,61 @@ static inline void peer_address_write(uint64_t address, uint8_t *octets)
         octets[i] = (uint8_t)(address >> (8 * i));
 }
 
+/* A frame was received. Its sender is the peer, or a link of it; CTS, ACK and frames without a class name none. */
+static inline peer_answer peer_receive(peer_table *table, const peer_settings *settings, const uint8_t *frame, size_t frame_octets,
+                                       uint8_t *out, size_t out_octets)
+{
+    peer_answer answer;
+
+    peer_receive_octets((uint8_t *)table, sizeof *table, (const uint8_t *)settings, sizeof *settings, frame, frame_octets,
+                        out, out_octets, (uint8_t *)&answer, sizeof answer);
+    return answer;
+}
+
+/* Our own side asks for something: one of the eleven primitives, for the peer of this address, which is no link's. */
+static inline peer_answer peer_ask(peer_table *table, const peer_settings *settings, uint8_t primitive, uint64_t address,
+                                   uint16_t code, uint8_t *out, size_t out_octets)
+{
+    peer_answer answer;
+
+    peer_ask_octets((uint8_t *)table, sizeof *table, (const uint8_t *)settings, sizeof *settings, primitive, address, code,
+                    out, out_octets, (uint8_t *)&answer, sizeof answer);
+    return answer;
+}
+
+/* Our own side names the links of a device that is in State 1 or has no record, at an AP: so many addresses, in place of those before. Count 0
+   takes them away and makes no record. Nothing is written, state and exchange stay. */
+static inline peer_answer peer_links(peer_table *table, const peer_settings *settings, uint64_t device, const uint64_t *links, size_t count,
+                                     uint8_t *out, size_t out_octets)
+{
+    uint8_t named[PEER_NAMED_OCTETS_MOST] = { 0 };
+    size_t given = count <= PEER_LINKS ? count : (size_t)PEER_LINKS, i;
+    peer_answer answer;
+
+    /* What six octets do not hold is as invalid as the zeros that stand for it; a count over four is refused as five is. */
+    if (device >> 48 == 0)
+        peer_address_write(device, named);
+    named[PEER_ADDRESS_OCTETS] = (uint8_t)(count == given ? count : PEER_LINKS + 1);
+    for (i = 0; i < given; i++)
+        if (links[i] >> 48 == 0)
+            peer_address_write(links[i], named + PEER_NAMED_OCTETS_LEAST + PEER_ADDRESS_OCTETS * i);
+    peer_links_octets((uint8_t *)table, sizeof *table, (const uint8_t *)settings, sizeof *settings,
+                      named, PEER_NAMED_OCTETS_LEAST + PEER_ADDRESS_OCTETS * given, out, out_octets, (uint8_t *)&answer, sizeof answer);
+    return answer;
+}
+
+/* Time passed: 1 to 65,535 TU. Each exchange that timed out, each query that is due again or timed out stands in out, in rising place, one
+   a record: peer_timeout_at reads one, there are written / PEER_TIMEOUT_OCTETS of them. Records with nothing left to keep, links too, are
+   freed here and only here. */
+static inline peer_answer peer_pass(peer_table *table, const peer_settings *settings, uint16_t step, uint8_t *out, size_t out_octets)
+{
+    peer_answer answer;
+
+    peer_pass_octets((uint8_t *)table, sizeof *table, (const uint8_t *)settings, sizeof *settings, step,
+                     out, out_octets, (uint8_t *)&answer, sizeof answer);
+    return answer;
+}
+
 /* The sender of a frame that was not refused and that has one: Address 2, from octet 10 on. */
 static inline uint64_t peer_sender(const uint8_t *frame)
 {
@@ -202,7 +234,7 @@ static inline const peer_record *peer_record_at(const peer_table *table, unsigne
     return place < PEER_PLACES && table->at[place].state != PEER_NO_STATE ? &table->at[place] : NULL;
 }
 
-/* The record of a peer; NULL where it has none, and so counts as State 1. */
+/* The record of a peer, by the device's address where it has links; NULL where it has none, and so counts as State 1. */
 static inline const peer_record *peer_record_of(const peer_table *table, uint64_t address)
 {
     unsigned place;
@@ -211,6 +243,24 @@ static inline const peer_record *peer_record_of(const peer_table *table, uint64_
         if (table->at[place].address == address)
             return peer_record_at(table, place);
     return NULL;
+}
+
+/* A link of a record, by its number from 0; 0 where it has no such link. */
+static inline uint64_t peer_link_at(const peer_record *record, unsigned number)
+{
+    return number < PEER_LINKS ? peer_address_read(record->links[number]) : 0;
+}
+
+/* The peer whose frames come from an address: the device where it is a link's, else the address itself. This is what an answer names. */
+static inline uint64_t peer_device(const peer_table *table, uint64_t sender)
+{
+    unsigned place, number;
+
+    for (place = 0; place < PEER_PLACES && sender != 0; place++)
+        for (number = 0; number < PEER_LINKS; number++)
+            if (peer_link_at(&table->at[place], number) == sender)
+                return table->at[place].address;
+    return sender;
 }
 
 /* Whether the request of an SA Query to this peer is to be sent: PEER_SA_QUERY_REQUEST. */

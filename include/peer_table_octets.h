@@ -1,15 +1,16 @@
-/* peer_table_octets.h - the peer table's numbers and its three calls, as every processor has them: over numbers and octets alone.
+/* peer_table_octets.h - the peer table's numbers and its four calls, as every processor has them: over numbers and octets alone.
  *
  * Include peer_table.h, which says what a host must know and puts structs and small functions round these calls. A host that is not
  * little-endian, or that brings its own forms, includes this file by itself.
  *
  * Every number of several octets is little-endian. A slice lies at any alignment, its length is 64 bits on every processor.
- *   table      768 octets, read and written: 32 records of address 8, hold 4, left 2, state 1, exchange 1, and of the SA Query identifier 2,
- *              left 2, number 4. All zero: the empty table
+ *   table      1,536 octets, read and written: 32 records of address 8, hold 4, left 2, state 1, exchange 1, of the SA Query identifier 2,
+ *              left 2, number 4, and of links four addresses of 6, from the first on, zero behind the last. All zero: the empty table
  *   settings   24 octets: role 1, own address 6 (as in a frame), rsna 1, authentication timeout 2, association timeout 2, edition 1,
  *              protection 1, query retry 2, query maximum 2, the ad hoc network's address 6. Of an AP or a station also the first 18 of
  *              these; or the first 14, with the usual times of a query; or the first 12: edition 1 without protection besides
  *   frame      any octets, without FCS
+ *   named      a device and its links: device address 6, count 1, and as many links of 6
  *   out        what the call writes, from its first octet on
  *   answer     24 octets or more, of which 24 are written: current AP 8, code 2, written 2, refusal 1, verdict 1, notice 1,
  *              distribution system 1, state 1, zero 7
@@ -21,24 +22,27 @@
 #include <stdint.h>
 
 /* Rises when a call, a layout or a number changes. */
-#define PEER_TABLE_VERSION 5
+#define PEER_TABLE_VERSION 6
 
 /* Sizes in octets, counts, and the times that the rules fix. A time is in TU of 1,024 microseconds. */
 enum {
     PEER_PLACES = 32,
-    PEER_RECORD_OCTETS = 24,
-    PEER_TABLE_OCTETS = 768,
+    PEER_LINKS = 4,            /* most links of a device */
+    PEER_RECORD_OCTETS = 48,
+    PEER_TABLE_OCTETS = 1536,
     PEER_SETTINGS_OCTETS = 24,
     PEER_SETTINGS_OCTETS_QUERY = 18,   /* without a network's address: not for PEER_AD_HOC */
     PEER_SETTINGS_OCTETS_EDITION = 14, /* nor a query's times */
     PEER_SETTINGS_OCTETS_LEAST = 12,   /* nor edition and protection; no other length is taken */
     PEER_ANSWER_OCTETS = 24,
     PEER_ADDRESS_OCTETS = 6,
+    PEER_NAMED_OCTETS_LEAST = 7, /* a device without links; six more for each */
+    PEER_NAMED_OCTETS_MOST = 31,
     PEER_FRAME_LONGEST = 4096,
-    PEER_OUT_LEAST = 37,       /* a frame was received, our side asks: the longest frame written */
+    PEER_OUT_LEAST = 37,       /* a frame was received, our side asks or names links: the longest frame written */
     PEER_PASS_OUT_LEAST = 256, /* time passed: 32 timeouts */
     PEER_TIMEOUT_OCTETS = 8,   /* one timeout: place, kind, address of six octets */
-    PEER_STACK_OCTETS = 1536,  /* below the caller's frame, on every target; tested, not proved: README.md has the most seen */
+    PEER_STACK_OCTETS = 2048,  /* below the caller's frame, on every target; tested, not proved: README.md has the most seen */
     PEER_HOLD_USUAL = 1954,    /* 2 s: the hold after a rejection without a comeback time, and after a disassociation received */
     PEER_QUERY_RETRY_USUAL = 201,   /* a query's times in settings that do not say them */
     PEER_QUERY_MAXIMUM_USUAL = 1000
@@ -59,15 +63,16 @@ enum {
 };
 
 /* Refusals: the first that applies.
-     a primitive   1, 2, 3, 5, 9, 7, 8, 6
+     a primitive   1, 2, 3, 5, 9, 7, 8, 6; links named have neither 9 nor 8
      a frame       1, 2, 3 for its length, 4, 3 for Address 2, 3 for elements; one without a class is discarded before 4 is looked at
      a clock step  1, 2, 3 */
 enum {
     PEER_DONE = 0,
     PEER_REFUSED_BUFFER = 1,   /* out or answer is too short */
     PEER_REFUSED_TABLE = 2,    /* settings or table not well formed, or not of their length */
-    PEER_REFUSED_INPUT = 3,    /* unknown primitive; code, clock step or peer address not allowed; frame too short or too long, its
-                                  Address 2 invalid or own, or a (re)association response whose elements do not end with it */
+    PEER_REFUSED_INPUT = 3,    /* unknown primitive; code, clock step or peer address not allowed, a link's too; frame too short or too long,
+                                  its Address 2 invalid or own, or a (re)association response whose elements do not end with it; of links
+                                  named: too many, or an address that is invalid, our own, given twice or in use elsewhere */
     PEER_REFUSED_FOREIGN = 4,  /* the frame is neither for us nor for a group */
     PEER_REFUSED_ROLE = 5,     /* the primitive is for another role */
     PEER_REFUSED_FULL = 6,     /* no place is free for a new record */
@@ -138,7 +143,8 @@ enum {
     PEER_KIND_QUERY_TIMED_OUT = 5 /* the maximum: the query ended without an answer */
 };
 
-/* Primitives of our own side: for whom, and which code goes with it */
+/* Primitives of our own side: for whom, and which code goes with it. The links of a device are named by a call of their own: as a primitive
+   12 is refused. */
 enum {
     PEER_AUTHENTICATE_REQUEST = 1,  /* station, ad hoc, 0 */
     PEER_AUTHENTICATE_RESPONSE = 2, /* AP, ad hoc, status */
@@ -189,6 +195,11 @@ uint64_t peer_receive_octets(uint8_t *table, uint64_t table_octets, const uint8_
 uint64_t peer_ask_octets(uint8_t *table, uint64_t table_octets, const uint8_t *settings, uint64_t settings_octets,
                          uint8_t primitive, uint64_t address, uint16_t code, uint8_t *out, uint64_t out_octets,
                          uint8_t *answer, uint64_t answer_octets);
+
+/* Our own side names the links of a device, at an AP. */
+uint64_t peer_links_octets(uint8_t *table, uint64_t table_octets, const uint8_t *settings, uint64_t settings_octets,
+                           const uint8_t *named, uint64_t named_octets, uint8_t *out, uint64_t out_octets,
+                           uint8_t *answer, uint64_t answer_octets);
 
 /* Time passed. */
 uint64_t peer_pass_octets(uint8_t *table, uint64_t table_octets, const uint8_t *settings, uint64_t settings_octets,

@@ -7,7 +7,7 @@ Nothing here checks a rule: a caller may ask for any field value that fits its o
 
 MARK = b"\x0b\x03"
 HEAD = 5  # octets of a record before its body: mark, kind, length
-SETTINGS, PRIMITIVE, FRAME, CLOCK = 0, 1, 2, 3
+SETTINGS, PRIMITIVE, FRAME, CLOCK, LINKS = 0, 1, 2, 3, 4
 ACCESS_POINT, STATION, AD_HOC = 1, 2, 3
 
 MANAGEMENT, CONTROL, DATA, EXTENSION = 0, 1, 2, 3
@@ -104,6 +104,12 @@ def frame(octets):
 
 def clock(step):
     return record(CLOCK, number(step))
+
+
+def links(device, addresses):
+    """Primitive 12, which names the links of a device."""
+    laid = address(device) + bytes((len(addresses),)) + b"".join(address(one) for one in addresses)
+    return record(LINKS, laid)
 
 
 # Elements

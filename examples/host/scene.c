@@ -1,7 +1,8 @@
-/* scene.c - two access points and four scanners, each with a table of its own; what one writes the other receives.
+/* scene.c - two access points, four scanners and a tablet, each with a table of its own; what one writes the other receives.
  * The first scanner joins. The second is rejected for now with a comeback of 0 and may ask again at once. The third is rejected with a
  * comeback of 5 TU and is refused until they have passed; then it calls an access point that does not answer. The fourth joins an access
- * point with protected management frames, where a request in its name is not believed before it has been asked itself. */
+ * point with protected management frames, where a request in its name is not believed before it has been asked itself.
+ * The tablet has two links, which the access point is told of: it joins over one, and is known over both. */
 #include "scene.h"
 #include "say.h"
 #include "side.h"
@@ -16,22 +17,31 @@ enum { TIMEOUT = 100, RETRY = 201, MAXIMUM = 1000 };
 static struct side ap = SIDE("AP", PEER_AP, 0, 2, 0, 0, 0, 0, 0x0a), guarded = SIDE("AP 2", PEER_AP, 1, 2, 0, 0, 0, 0, 0x0c);
 static struct side first = SIDE("scanner 1", PEER_STATION, 0, 2, 0, 0, 0, 1, 1), second = SIDE("scanner 2", PEER_STATION, 0, 2, 0, 0, 0, 2, 1),
                    third = SIDE("scanner 3", PEER_STATION, 0, 2, 0, 0, 0, 3, 1), fourth = SIDE("scanner 4", PEER_STATION, 1, 2, 0, 0, 0, 4, 1);
+/* The tablet speaks over this link; it has another, and an address as a device. */
+static struct side tablet = SIDE("tablet", PEER_STATION, 0, 2, 0, 0, 0, 5, 1);
+static const uint8_t other_link[PEER_ADDRESS_OCTETS] = { 2, 0, 0, 0, 5, 2 }, device[PEER_ADDRESS_OCTETS] = { 2, 0, 0, 0, 5, 0 };
 static const uint8_t absent[PEER_ADDRESS_OCTETS] = { 2, 0, 0, 0, 0, 0x0b };
 
 /* A frame from a scanner to an AP, or from someone in its name: the header, and a body of zeros. */
-static void send_frame(struct side *to, const struct side *scanner, const char *heard, uint8_t kind, size_t octets)
+static void send_frame(struct side *to, uint64_t scanner, const char *heard, uint8_t kind, size_t octets)
 {
     uint8_t frame[28] = { 0 };
 
     frame[0] = kind;
     peer_address_write(side_address(to), frame + 4);
-    peer_address_write(side_address(scanner), frame + 10);
+    peer_address_write(scanner, frame + 10);
     side_receive(to, heard, frame, octets);
 }
 
 static void send_data(struct side *to, const struct side *scanner)
 {
-    send_frame(to, scanner, "hears data", 0x08, 24);
+    send_frame(to, side_address(scanner), "hears data", 0x08, 24);
+}
+
+/* What the AP knows the scanner by: its own address, or the device's where it speaks over a link. */
+static uint64_t known(const struct side *at, const struct side *scanner)
+{
+    return peer_device(&at->table, side_address(scanner));
 }
 
 /* The scanner asks for something, and the AP hears it and answers. Gives how many octets of answer lie in the AP's buffer. */
@@ -41,7 +51,7 @@ static size_t exchange(struct side *to, struct side *scanner, const char *asks, 
     peer_answer a = side_ask(scanner, asks, request, side_address(to), 0);
 
     side_receive(to, "hears it", scanner->out, a.written);
-    return side_ask(to, answers, response, side_address(scanner), status).written;
+    return side_ask(to, answers, response, known(to, scanner), status).written;
 }
 
 /* Open authentication, all four steps. */
@@ -60,7 +70,7 @@ static void associate(struct side *to, struct side *scanner)
                              "answers with success", PEER_ASSOCIATE_RESPONSE, PEER_STATUS_SUCCESS);
 
     side_receive(scanner, "hears the answer", to->out, answer);
-    side_ask(to, "is told of the acknowledgement", PEER_TRANSMIT_REPORT, side_address(scanner), PEER_ACKNOWLEDGED);
+    side_ask(to, "is told of the acknowledgement", PEER_TRANSMIT_REPORT, known(to, scanner), PEER_ACKNOWLEDGED);
 }
 
 /* Where RSNA is required: the keys are in place on both sides. */
@@ -108,7 +118,7 @@ static void forged_request(void)
     protect(&guarded, &fourth);
 
     say("A forger asks to associate in its name: the scanner is asked, answers, and stays as it is.\n");
-    send_frame(&guarded, &fourth, "hears the forger", 0x00, 28);
+    send_frame(&guarded, side_address(&fourth), "hears the forger", 0x00, 28);
     peer_answer a = side_receive(&fourth, "hears the query", guarded.out, query(&fourth));
     side_receive(&guarded, "hears its answer", fourth.out, a.written);
     send_data(&guarded, &fourth);
@@ -133,6 +143,18 @@ static void true_request(void)
     side_pass(&fourth, MAXIMUM);
     associate(&guarded, &fourth);
     protect(&guarded, &fourth);
+}
+
+/* One record for both links, one state. What the AP asks goes to the first link. */
+static void several_links(void)
+{
+    const uint64_t links[] = { side_address(&tablet), peer_address_read(other_link) };
+
+    say("A tablet with two links joins over the first, and is known over both.\n");
+    side_links(&ap, "is told of the links", peer_address_read(device), links, 2);
+    authenticate(&ap, &tablet);
+    associate(&ap, &tablet);
+    send_frame(&ap, peer_address_read(other_link), "hears data of the other link", 0x08, 24);
 }
 
 void scene(void)
@@ -163,4 +185,5 @@ void scene(void)
 
     forged_request();
     true_request();
+    several_links();
 }

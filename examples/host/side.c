@@ -1,4 +1,4 @@
-/* side.c - the three calls over one side's own table, and answers in words. */
+/* side.c - the four calls over one side's own table, and answers in words. */
 #include "side.h"
 #include "peer_table_names.h"
 #include "say.h"
@@ -61,6 +61,11 @@ peer_answer side_receive(struct side *side, const char *what, const uint8_t *fra
 peer_answer side_ask(struct side *side, const char *what, uint8_t primitive, uint64_t address, uint16_t code)
 {
     return told(side, what, peer_ask(&side->table, &side->settings, primitive, address, code, side->out, sizeof side->out));
+}
+
+peer_answer side_links(struct side *side, const char *what, uint64_t device, const uint64_t *links, size_t count)
+{
+    return told(side, what, peer_links(&side->table, &side->settings, device, links, count, side->out, sizeof side->out));
 }
 
 peer_answer side_pass(struct side *side, uint16_t step)

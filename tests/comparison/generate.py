@@ -10,7 +10,8 @@ import pathlib
 
 from tools import bench_input as bench
 
-from . import walk_ad_hoc, walk_ap, walk_damage, walk_query, walk_station, walk_sweep
+from . import (walk_ad_hoc, walk_ap, walk_damage, walk_link, walk_query, walk_station,
+               walk_sweep)
 from .walk import GROUPS, NETWORK, OWN, Dice, Walk
 
 # Events of one input; a walk or a sweep may make a few more.
@@ -20,14 +21,14 @@ REFUSED_EVENTS = 25
 LONGEST_HOLD_EVENTS = 65544
 IDENTIFIERS_EVENTS = 131083
 SWEEP_EVENTS = 968
-KINDS = ("ap", "station", "ad-hoc", "ap-full", "station-full", "ad-hoc-full", "refused", "damaged",
-         "sweep", "longest-hold", "identifiers")
+KINDS = ("ap", "station", "ad-hoc", "links", "ap-full", "station-full", "ad-hoc-full", "links-full",
+         "refused", "damaged", "sweep", "longest-hold", "identifiers")
 # One round of walks; a plan repeats it until the count is reached.
-ROUND = ("ap", "station", "ad-hoc", "ap", "station", "ap", "station", "ap-full", "ap", "station",
-         "ad-hoc", "station-full", "ap", "station", "ad-hoc-full")
-# Each role's number, its moves, and how often its settings record has 24 octets.
-ROLES = {"ap": (bench.ACCESS_POINT, walk_ap, 10), "station": (bench.STATION, walk_station, 10),
-         "ad-hoc": (bench.AD_HOC, walk_ad_hoc, 100)}
+ROUND = ("ap", "station", "ad-hoc", "links", "ap", "station", "links", "ap", "station", "ap-full", "ap",
+         "station", "ad-hoc", "station-full", "links", "links-full", "ap", "station", "ad-hoc-full")
+# For each walk its role, its moves, and how often its settings record has 24 octets.
+WALKS = {"ap": (bench.ACCESS_POINT, walk_ap, 10), "station": (bench.STATION, walk_station, 10),
+         "ad-hoc": (bench.AD_HOC, walk_ad_hoc, 100), "links": (bench.ACCESS_POINT, walk_link, 10)}
 TIMEOUTS = (1, 2, 3, 10, 50, 100, 100, 500, 1000, 1954, 30000, 65534, 65535)
 CROWD = 33
 # Edition and protection; without them the settings record has 12 octets. Behind them a query's times,
@@ -87,7 +88,7 @@ def rule_of(dice, role, percent):
 def walked(job, dice):
     """A guided walk: settings drawn, a crowd put in where the kind asks for one, then steps."""
     full = job.kind.endswith("-full")
-    role, moves, percent = ROLES[job.kind[:-len("-full")] if full else job.kind]
+    role, moves, percent = WALKS[job.kind[:-len("-full")] if full else job.kind]
     peers = CROWD + dice.below(8) if full else dice.of((1, 2, 3, 4, 5, 6, 6, 7, 8, 9, 12))
     timeouts = dice.of(TIMEOUTS), dice.of(TIMEOUTS)
     if full and role != bench.ACCESS_POINT:

@@ -10,7 +10,7 @@ from tools import bench_input as bench
 
 AUTHENTICATION, ASSOCIATION, REASSOCIATION = 1, 2, 3
 ASKED, AWAITING, SENT = "asked", "awaiting", "sent"
-PLACES = 32
+PLACES, LINKS = 32, 4
 LONGEST_STEP = 65535
 USUAL_HOLD = 1954
 
@@ -49,18 +49,19 @@ class Dice:
 
 
 class Peer:
-    """The guess for one address; state 0 is 'no record'."""
+    """The guess for one device; state 0 is 'no record'. Its radios are what it may name as links."""
 
-    __slots__ = ("address", "state", "exchange", "left", "hold", "query", "identifier")
+    __slots__ = ("address", "radios", "state", "exchange", "left", "hold", "query", "identifier", "links")
 
-    def __init__(self, address):
-        self.address = address
+    def __init__(self, number):
+        self.address = bench.address(f"02:00:00:00:01:{number:02x}")
+        self.radios = [bench.address(f"02:00:00:01:{number:02x}:{radio:02x}") for radio in range(LINKS)]
         self.clear()
 
     def clear(self):
         """The query is the TU left of one that runs, 0 for the mark of one that timed out, or None."""
         self.state, self.exchange, self.left, self.hold = 0, None, 0, 0
-        self.query, self.identifier = None, 0
+        self.query, self.identifier, self.links = None, 0, ()
 
     def end_exchange(self):
         self.exchange, self.left = None, 0
@@ -79,7 +80,7 @@ class Walk:
         rule_ = (*rule, *bench.USUAL_RULE[len(rule):])
         self.edition, self.protection, self.retry, self.maximum, _ = rule_
         self.own = OWN
-        self.peers = [Peer(bench.address(f"02:00:00:00:01:{n:02x}")) for n in range(peer_count)]
+        self.peers = [Peer(number) for number in range(peer_count)]
         self.records = [bench.settings(role, OWN, rsna, *timeouts, *rule)]
 
     def events(self):
@@ -91,10 +92,17 @@ class Walk:
     # Events
 
     def hear(self, octets):
+        """A frame of a device with links comes by one of them, or now and then from the device itself."""
+        sender = next((peer for peer in self.peers if peer.links and peer.address == octets[10:16]), None)
+        if sender and self.dice.chance(85):
+            octets = octets[:10] + self.dice.of(sender.links) + octets[16:]
         self.records.append(bench.frame(octets))
 
     def ask(self, which, peer_address, code=0):
         self.records.append(bench.primitive(which, peer_address, code))
+
+    def name_links(self, device, links):
+        self.records.append(bench.links(device, links))
 
     def pass_time(self, step):
         self.records.append(bench.clock(step))
@@ -114,7 +122,7 @@ class Walk:
                 if peer.exchange[1] != AUTHENTICATION:
                     peer.state = 2
                 peer.end_exchange()
-        if peer.state == 1 and peer.exchange is None and not peer.hold:
+        if peer.state == 1 and peer.exchange is None and not peer.hold and not peer.links:
             peer.clear()
 
     # Who is in what

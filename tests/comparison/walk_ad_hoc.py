@@ -5,8 +5,8 @@ from tools import bench_input as bench
 from . import walk_ap, walk_station
 from .walk import (ASKED, AUTHENTICATION, GROUPS, LONGEST_STEP, SENT, fall_by_frame, fall_by_primitive,
                    let_time_pass, protect, repeat, send_data)
+from .walk_link import odd_link
 from .walk_odd import odd_action, odd_frame, odd_primitive, odd_response
-from .walk_query import hear_query
 
 hear_request = walk_ap.hear_authentication
 hear_answer = walk_station.hear_authentication
@@ -88,7 +88,7 @@ def go_on(walk, peer):
 MOVES = ((34, go_on), (8, cross), (4, run_out), (10, any_ds), (4, send_data), (3, repeat), (3, ask),
          (3, hear_request), (2, hear_answer), (2, answer), (5, fall_by_frame), (3, fall_by_primitive),
          (1, protect), (3, join_in_vain), (4, let_time_pass), (4, odd_frame), (1, odd_response),
-         (2, odd_action), (3, odd_primitive), (1, hear_query))
+         (2, odd_action), (3, odd_primitive), (1, odd_link))
 
 
 def fill(walk):

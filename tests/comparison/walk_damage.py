@@ -3,9 +3,11 @@
 from tools import bench_input as bench
 
 from .walk import NETWORK, OWN, Walk
+from .walk_link import odd_link
 from .walk_odd import odd_frame, odd_primitive
 
 PEER = bench.address("02:00:00:00:01:00")
+RADIOS = [bench.address(f"02:00:00:02:00:{n:02x}") for n in range(255)]
 GOOD = dict(role=bench.ACCESS_POINT, own=OWN, rsna=0, authentication_timeout=100,
             association_timeout=100)
 # One change each to good settings; every event after them is refused with 2.
@@ -37,14 +39,15 @@ def base():
     return [bench.settings(**GOOD),
             bench.frame(bench.control(bench.ACK, OWN)),
             bench.primitive(3, PEER, 7),
+            bench.links(PEER, RADIOS[:1]),
             bench.clock(5),
             bench.frame(bench.authentication(OWN, PEER))]
 
 
 def cuts():
-    """The base cut at each position up to the end of its third event."""
+    """The base cut at each position up to the end of its fourth event."""
     whole = b"".join(base())
-    end = sum(len(record) for record in base()[:4])
+    end = sum(len(record) for record in base()[:5])
     return [whole[:length] for length in range(end + 6)] + [whole[:-1]]
 
 
@@ -54,11 +57,25 @@ def _placed(bad, place):
     return b"".join(records[:place] + [bad] + records[place:])
 
 
+def odd_lists():
+    """Lists of links whose length is not that of their count, and lists that only look so: of none, of
+    more than a device can have, of as many as the count can say."""
+    whole = bench.links(PEER, RADIOS)[bench.HEAD:]
+    counts = (0, 1), (1, 0), (1, 2), (2, 1), (4, 5), (5, 4), (255, 254), (254, 255)
+    faults = [bench.record(bench.LINKS, whole[:6] + bytes((count,)) + whole[7:7 + 6 * given])
+              for count, given in counts]
+    faults += [bench.record(bench.LINKS, whole[:length]) for length in (0, 1, 6)]
+    faults += [bench.record(bench.LINKS, whole[:6] + bytes((count,)) + whole[7:7 + 6 * count + more])
+               for count in (0, 1, 4, 5, 254) for more in (-1, 1)]
+    faults += [bench.record(bench.LINKS, bytes(length)) for length in (8, 13, 4096, 4103, 65535)]
+    return faults + [bench.links(PEER, RADIOS[:count]) for count in (0, 1, 4, 5, 6, 254, 255)]
+
+
 def bad_records():
     """Records at fault, and a few that only look so (an empty frame, one of 4,096)."""
     mark_faults = [bench.record(bench.CLOCK, b"\1\0", mark=mark)
                    for mark in (b"\x0b\x04", b"\x0a\x03", b"\x03\x0b", b"\0\0", b"\xff\xff")]
-    kind_faults = [bench.record(kind, bytes(length)) for kind in (4, 5, 128, 255)
+    kind_faults = [bench.record(kind, bytes(length)) for kind in (5, 6, 128, 255)
                    for length in (0, 2)]
     length_faults = [bench.record(kind, bytes(length)) for kind, good in ((1, 9), (3, 2))
                      for length in (0, good - 1, good + 1, 256 + good)]
@@ -66,7 +83,7 @@ def bad_records():
     lying = [bench.record(bench.CLOCK, b"\1\0", length=1), bench.record(bench.FRAME, b"", 12)]
     sound = [bench.frame(b""), bench.frame(bytes(bench.LONGEST_FRAME)),
              bench.clock(0), bench.primitive(0, PEER, 0)]
-    return (mark_faults + kind_faults + length_faults + long_frames + lying + sound
+    return (mark_faults + kind_faults + length_faults + long_frames + lying + sound + odd_lists()
             + [bench.settings(**GOOD)])
 
 
@@ -85,24 +102,31 @@ def bad_starts():
     return [start + rest for start in starts] + cut + [good, good + good, good + b"\0", b"\x0b", b"\x0c"]
 
 
+def every_count():
+    """Lists of links of every length that a count can say, none of them at fault."""
+    return bench.settings(**GOOD) + b"".join(bench.links(PEER, RADIOS[:count]) for count in range(256))
+
+
 def damaged_inputs():
     """All of them, always the same ones in the same order."""
     middle = [_placed(bad, place) for bad in bad_records() for place in (1, 3)]
-    return cuts() + middle + bad_starts()
+    return cuts() + middle + bad_starts() + [every_count()]
 
 
 def refused_walk(dice, index, events):
-    """A walk under settings out of range: frames, primitives and clock steps of all sorts."""
+    """A walk under settings out of range: frames, primitives, lists of links and clock steps."""
     changed = dict(GOOD, **OUT_OF_RANGE[index % len(OUT_OF_RANGE)])
     walk = Walk(dice, changed["role"], 3, 0, (100, 100))
     walk.records[0] = bench.settings(**changed)
     while walk.events() < events:
         peer = dice.of(walk.peers)
-        shape = dice.below(3)
+        shape = dice.below(4)
         if shape == 0:
             odd_frame(walk, peer)
         elif shape == 1:
             odd_primitive(walk, peer)
+        elif shape == 2:
+            odd_link(walk, peer)
         else:
             walk.pass_time(dice.of((0, 1, 100, 65535)))
     return walk.octets()

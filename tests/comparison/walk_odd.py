@@ -57,7 +57,7 @@ def odd_elements(dice):
 
 def odd_response(walk, peer):
     """A (re)association response that nobody waits for, or one octet too long or too short for its
-    elements: in either role, in any state, now and then to or from a bad address."""
+    elements: in any role, in any state, now and then to or from a bad address."""
     dice = walk.dice
     make = dice.of((bench.association_response, bench.reassociation_response))
     receiver = dice.weighted(((70, walk.own), (20, dice.of(GROUPS)), (10, dice.of(FOREIGN))))
@@ -125,7 +125,7 @@ def good_code(dice, which):
 
 def odd_primitive(walk, peer):
     """A primitive that is unknown, of another role, with a bad code, or to a bad or a
-    strange address."""
+    strange address, a link's too."""
     dice = walk.dice
     fault = dice.below(5)
     which = 1 + dice.below(11)
@@ -139,7 +139,8 @@ def odd_primitive(walk, peer):
         which = dice.of((1, 3, 4, 5, 6, 9, 10, 11))
         walk.ask(which, peer.address, bad_code(dice, which))
     elif fault == 3:
-        walk.ask(which, dice.of(GROUPS + (bench.ZERO, walk.own)), good_code(dice, which))
+        radios = tuple(link for other in walk.peers for link in other.links)
+        walk.ask(which, dice.of(GROUPS + (bench.ZERO, walk.own) + radios), good_code(dice, which))
     elif which > 1:
         walk.ask(which, dice.of(STRANGERS), good_code(dice, which))
     else:

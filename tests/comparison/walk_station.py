@@ -7,6 +7,7 @@ from .walk import (ASSOCIATION, AUTHENTICATION, LONGEST_STEP, REASSOCIATION, SEN
                    send_data)
 from .walk_odd import (BROKEN_ENDS, odd_action, odd_frame, odd_primitive, odd_response,
                       whole_elements)
+from .walk_link import odd_link
 from .walk_query import hear_query
 
 RESPONSES = {ASSOCIATION: bench.association_response, REASSOCIATION: bench.reassociation_response}
@@ -137,7 +138,8 @@ def go_on(walk, peer):
 MOVES = ((52, go_on), (5, send_data), (3, repeat), (4, ask_to_join), (3, ask_authentication),
          (2, hear_response), (2, hear_authentication), (3, fall_by_frame),
          (2, fall_by_primitive), (1, protect), (5, let_time_pass),
-         (6, odd_frame), (2, odd_response), (3, odd_action), (5, odd_primitive), (2, hear_query))
+         (6, odd_frame), (2, odd_response), (2, odd_action), (5, odd_primitive), (2, hear_query),
+         (1, odd_link))
 
 
 def longest_hold(walk):

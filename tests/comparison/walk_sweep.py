@@ -1,9 +1,11 @@
 """Sweeps: one peer is brought into a given state again and again, and every type and subtype to
-every sort of Address 1 at its boundary lengths, then Action frames, every primitive and code, at an
-access point every answer to a request, and in an ad hoc network every pair of DS bits, is tried there."""
+every sort of Address 1 at its boundary lengths, then Action frames, every primitive and code, every
+sort of links, at an access point every answer to a request, and in an ad hoc network every pair of DS
+bits, is tried there."""
 
 from tools import bench_input as bench
 
+from . import walk_link
 from .walk import FOREIGN, GROUPS, LONGEST_STEP, NETWORK, OWN, Walk
 from .walk_odd import FILLS, LEAST_MANAGEMENT, least_length
 
@@ -13,8 +15,10 @@ CODES = (0, 1, 2, 65535)
 
 
 def reset(walk, peer):
-    """No record, no exchange, no hold: our own farewell, then time for the usual hold."""
+    """No record, no exchange, no hold: our own farewell, no links, then time for the usual hold."""
     walk.ask(3, peer.address, 3)
+    if peer.links:
+        walk_link.take_away(walk, peer)
     walk.pass_time(LONGEST_STEP)
 
 
@@ -30,6 +34,14 @@ def reach_at_ap(walk, peer, state):
     if state == 3 and not walk.rsna:
         walk.hear(bench.association_request(walk.own, peer.address))
         walk.ask(7, peer.address, 1)
+
+
+def reach_by_links(walk, peer, state):
+    """The same for a device with links; without a record it has none."""
+    peer.clear()
+    if state > 0:
+        walk_link.name(walk, peer, peer.radios[:1 + walk.dice.below(4)])
+    reach_at_ap(walk, peer, state)
 
 
 def reach_at_station(walk, peer, state):
@@ -58,6 +70,8 @@ SWEEPS += tuple((way, bench.AD_HOC, rsna, state, rule)
                     (reach_at_station, 0, 1, (1, 0, 201, 1000, OWN)),
                     (reach_at_ap, 0, 2, (2, 1, 201, 1000, NETWORK)),
                     (reach_at_station, 1, 2, (1, 1, 201, 1000, NETWORK))))
+SWEEPS += tuple((reach_by_links, bench.ACCESS_POINT, rsna, state, rule)
+                for rsna, state, rule in ((0, 1, ()), (1, 2, ()), (1, 3, ()), (0, 4, (2, 1, 10, 25))))
 
 
 def sweep_frames(walk, peer, reach):
@@ -132,6 +146,28 @@ def sweep_ds(walk, peer, reach):
                 reach()
 
 
+def sweep_links(walk, peer, reach):
+    """Lists of every length up to six and of 255; then each address that is no link, alone and behind
+    a good one; then each that is no device. A second peer has a record, at an access point with a link."""
+    other, radios = walk.peers[1], peer.radios
+    bad = (bench.ZERO, *GROUPS, walk.own, peer.address, radios[0], other.address, other.radios[0])
+    lists = [(radios * 64)[:count] for count in (0, 1, 2, 3, 4, 5, 6, 255)]
+    lists += [[*radios[:count], address] for address in bad for count in (0, 1, 3)]
+    walk.hear(bench.authentication(walk.own, other.address))
+    walk.name_links(other.address, other.radios[:1])
+    for links in lists:
+        walk.name_links(peer.address, links)
+        walk.name_links(peer.address, [])
+        reach()
+    for device in bad:
+        for links in ([], radios[1:2]):
+            walk.name_links(device, links)
+    for which in range(13):
+        walk.ask(which, other.radios[0], 1 if which in (3, 6) else 0)
+    walk.name_links(other.address, [])
+    walk.ask(3, other.address, 3)
+
+
 def sweep_primitives(walk, peer, reach):
     for which in PRIMITIVES:
         for code in CODES:
@@ -154,7 +190,7 @@ def sweep_answers(walk, peer, reach):
 def swept(dice, index):
     """The octets of one sweep."""
     way, role, rsna, state, rule = SWEEPS[index]
-    walk = Walk(dice, role, 1, rsna, (1000, 1000), rule)
+    walk = Walk(dice, role, 2, rsna, (1000, 1000), rule)
     peer = walk.peers[0]
 
     def reach():
@@ -166,6 +202,7 @@ def swept(dice, index):
     sweep_actions(walk, peer)
     sweep_primitives(walk, peer, reach)
     sweep_query_frames(walk, peer)
+    sweep_links(walk, peer, reach)
     if role == bench.ACCESS_POINT:
         sweep_answers(walk, peer, reach)
         sweep_queries(walk, peer, reach)

@@ -6,8 +6,8 @@
 #include <stdio.h>
 #include <string.h>
 
-#if PEER_TABLE_VERSION != 5
-#error "this test is of version 5"
+#if PEER_TABLE_VERSION != 6
+#error "this test is of version 6"
 #endif
 
 static int faults;
@@ -48,6 +48,13 @@ static void records(void)
     want(peer_aid(0) == 1 && peer_aid(31) == 32, "the AID of a place");
     table.at[0].query = PEER_QUERY_RUNNING;
     table.at[31].query = PEER_QUERY_DUE;
+    want(peer_link_at(&table.at[0], 0) == 0 && peer_link_at(&table.at[0], 4) == 0, "no link of a record");
+    peer_address_write(0x0a0000000002u, table.at[31].links[0]);
+    peer_address_write(0x0c0000000002u, table.at[31].links[3]);
+    want(peer_link_at(&table.at[31], 0) == 0x0a0000000002u && peer_link_at(&table.at[31], 3) == 0x0c0000000002u &&
+         peer_link_at(&table.at[31], 1) == 0 && peer_link_at(&table.at[31], 4000000000u) == 0, "a link by its number");
+    want(peer_device(&table, 0x0a0000000002u) == 8 && peer_device(&table, 0x0c0000000002u) == 8 && peer_device(&table, 8) == 8 &&
+         peer_device(&table, 6) == 6 && peer_device(&table, 0) == 0, "the device of an address");
     want(peer_query_is_due(&table, 8) && !peer_query_is_due(&table, 4) && !peer_query_is_due(&table, 6), "a query that is due");
 }
 
@@ -118,6 +125,42 @@ static void calls(void)
     want(a.refusal == PEER_REFUSED_BUFFER && a.written == 0, "a refusal");
 }
 
+/* A device with two links asks over the second: the reply to a bad algorithm goes there, what our side asks to the first. */
+static void links(void)
+{
+    static const peer_settings ap = { PEER_AP, { 2, 0, 0, 0, 0, 0x0a }, 0, 100, 100, PEER_EDITION_1, 0, 201, 1000, { 0 } };
+    const uint64_t device = 0x010000000002u, named[5] = { 0x020000000002u, 0x030000000002u, 0x040000000002u, 0x050000000002u, 2 };
+    uint64_t over[1] = { 0x1000000000002u };
+    uint8_t frame[30] = { 0xb0 }, out[PEER_PASS_OUT_LEAST];
+    peer_table table;
+    peer_answer a;
+
+    memset(&table, 0, sizeof table);
+    peer_address_write(peer_address_read(ap.own), frame + 4);
+    peer_address_write(named[1], frame + 10);
+    want(peer_links(&table, &ap, device, named, 0, out, sizeof out).refusal == PEER_DONE && !peer_record_of(&table, device), "no links, no record");
+    want(peer_links(&table, &ap, device, named, 5, out, sizeof out).refusal == PEER_REFUSED_INPUT &&
+         peer_links(&table, &ap, device, named, 4000000000u, out, sizeof out).refusal == PEER_REFUSED_INPUT, "more than four links");
+    want(peer_links(&table, &ap, device, over, 1, out, sizeof out).refusal == PEER_REFUSED_INPUT &&
+         peer_links(&table, &ap, over[0], named, 1, out, sizeof out).refusal == PEER_REFUSED_INPUT, "an address over six octets");
+    a = peer_links(&table, &ap, device, named, 4, out, sizeof out);
+    want(a.refusal == PEER_DONE && a.state == PEER_STATE_1 && a.written == 0 && peer_link_at(&table.at[0], 3) == named[3], "four links");
+    a = peer_links(&table, &ap, device, named, 2, out, sizeof out);
+    want(a.refusal == PEER_DONE && peer_link_at(&table.at[0], 1) == named[1] && peer_link_at(&table.at[0], 2) == 0, "two in their place");
+    frame[24] = 3;
+    frame[26] = 1;
+    a = peer_receive(&table, &ap, frame, sizeof frame, out, sizeof out);
+    want(a.written == 30 && peer_address_read(out + 4) == named[1], "a reply goes to the link");
+    frame[24] = 0;
+    a = peer_receive(&table, &ap, frame, sizeof frame, out, sizeof out);
+    want(a.notice == PEER_AUTHENTICATION_INDICATION && table.at[0].exchange == PEER_ASKED_AUTHENTICATION, "the device asks");
+    a = peer_ask(&table, &ap, PEER_AUTHENTICATE_RESPONSE, named[1], PEER_STATUS_SUCCESS, out, sizeof out);
+    want(a.refusal == PEER_REFUSED_INPUT, "a link in a primitive");
+    a = peer_ask(&table, &ap, PEER_AUTHENTICATE_RESPONSE, peer_device(&table, peer_sender(frame)), PEER_STATUS_SUCCESS, out, sizeof out);
+    want(a.state == PEER_STATE_2 && peer_address_read(out + 4) == named[0], "an answer goes to the first link");
+    want(peer_links(&table, &ap, device, named, 1, out, sizeof out).refusal == PEER_REFUSED_NO_MATCH, "links in State 1 alone");
+}
+
 /* Two ask each other at once, without an AP: the request heard takes the place of ours, and the frame carries the network's address. */
 static void ad_hoc(void)
 {
@@ -178,6 +221,7 @@ int main(void)
     timeouts();
     names();
     calls();
+    links();
     ad_hoc();
     older_settings();
     return faults > 0;

@@ -23,6 +23,19 @@ struct outcome {
 
 const struct call *volatile call_under_way;
 
+/* The links that octets name. Of another length than their count says, or too many: as many as no device has. */
+static struct pt_answer named(const struct call *c, const struct pt_settings *s, struct pt_record *table)
+{
+    uint64_t links[PT_LINKS] = { 0 };
+    size_t count = c->frame_octets < PEER_NAMED_OCTETS_LEAST ? PT_LINKS + 1u : c->frame[PEER_ADDRESS_OCTETS];
+
+    if (count > PT_LINKS || c->frame_octets != PEER_NAMED_OCTETS_LEAST + PEER_ADDRESS_OCTETS * count)
+        return pt_link(s, table, 0, links, PT_LINKS + 1u, c->out_octets);
+    for (size_t i = 0; i < count; i++)
+        links[i] = pt_get48(c->frame + PEER_NAMED_OCTETS_LEAST + PEER_ADDRESS_OCTETS * i);
+    return pt_link(s, table, pt_get48(c->frame), links, count, c->out_octets);
+}
+
 static struct pt_answer independent(const struct call *c, struct pt_record *table, uint8_t *out)
 {
     struct pt_settings s = settings_of(&c->settings, c->settings_octets);
@@ -31,6 +44,8 @@ static struct pt_answer independent(const struct call *c, struct pt_record *tabl
         return pt_receive(&s, table, c->frame, c->frame_octets, out, c->out_octets);
     if (c->kind == CALL_ASK)
         return pt_ask(&s, table, c->primitive, c->address, c->number, out, c->out_octets);
+    if (c->kind == CALL_LINKS)
+        return named(c, &s, table);
     return pt_clock(&s, table, c->number, out, c->out_octets);
 }
 
@@ -77,6 +92,9 @@ static void library(void *given)
     else if (c->kind == CALL_ASK)
         l->result = peer_ask_octets(l->table, c->table_octets, l->settings, c->settings_octets, c->primitive, c->address, c->number,
                                     l->out, c->out_octets, l->answer, c->answer_octets);
+    else if (c->kind == CALL_LINKS)
+        l->result = peer_links_octets(l->table, c->table_octets, l->settings, c->settings_octets, l->frame, c->frame_octets,
+                                      l->out, c->out_octets, l->answer, c->answer_octets);
     else
         l->result = peer_pass_octets(l->table, c->table_octets, l->settings, c->settings_octets, c->number,
                                      l->out, c->out_octets, l->answer, c->answer_octets);
@@ -114,7 +132,7 @@ static void compare(const struct lent_call *l, const struct outcome *o, const ui
     if (memcmp(l->out, o->out, c->out_octets) != 0)
         differs("the octets of out", l, o);
     if (memcmp(l->frame, c->frame, c->frame_octets) != 0 || memcmp(l->settings, settings, c->settings_octets) != 0)
-        differs("the frame or the settings were written to", l, o);
+        differs("the frame, the links named or the settings were written to", l, o);
     for (int i = 0; i < LENT_STACK; i++)
         if (!lent_round_about((enum lent)i))
             differs("octets outside of what was lent were written", l, o);

@@ -5,12 +5,12 @@
 #include "chance.h"
 #include "forms.h"
 
-enum call_kind { CALL_RECEIVE, CALL_ASK, CALL_PASS, CALL_KINDS };
+enum call_kind { CALL_RECEIVE, CALL_ASK, CALL_PASS, CALL_LINKS, CALL_KINDS };
 
 /* What sort of table a call was lent, for the count at the end. */
 enum table_kind { TABLE_CORPUS, TABLE_WALK, TABLE_DRAWN, TABLE_SPOILT, TABLE_RANDOM, TABLE_OF_OTHER_LENGTH, TABLE_KINDS };
 
-enum { TABLE_MOST = 1024, SETTINGS_MOST = 64, FRAME_MOST = 5000, OUT_MOST = 4200, ANSWER_MOST = 64 };
+enum { TABLE_MOST = 1600, SETTINGS_MOST = 64, FRAME_MOST = 5000, OUT_MOST = 4200, ANSWER_MOST = 64 };
 
 struct call {
     enum call_kind kind;
@@ -22,7 +22,7 @@ struct call {
     uint8_t primitive;
     uint64_t address;
     uint16_t number; /* code or clock step */
-    uint8_t frame[FRAME_MOST];
+    uint8_t frame[FRAME_MOST]; /* or the device and links that are named */
     size_t frame_octets;
     size_t out_octets, answer_octets;
     const char *source; /* where the call comes from, and which one of there */

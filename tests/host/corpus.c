@@ -6,23 +6,27 @@
 #include <stdlib.h>
 #include <string.h>
 
-enum { HEADER = 5, SETTINGS = 0, PRIMITIVE = 1, FRAME = 2, CLOCK = 3, SCRATCH = 256 };
+enum { HEADER = 5, SETTINGS = 0, PRIMITIVE = 1, FRAME = 2, CLOCK = 3, LINKS = 4, SCRATCH = 256 };
 
-/* The bodies' lengths that the bench takes; a frame has any up to 4,096. */
-static bool length_fits(unsigned kind, size_t length)
+/* The bodies' lengths that the bench takes; a frame has any up to 4,096, links named as many as they count. */
+static bool length_fits(unsigned kind, size_t length, const uint8_t *body)
 {
     return (kind == SETTINGS && settings_length(length)) || (kind == PRIMITIVE && length == 9) ||
-           (kind == FRAME && length <= PT_FRAME_MAX) || (kind == CLOCK && length == 2);
+           (kind == FRAME && length <= PT_FRAME_MAX) || (kind == CLOCK && length == 2) ||
+           (kind == LINKS && length >= PEER_NAMED_OCTETS_LEAST &&
+            length == PEER_NAMED_OCTETS_LEAST + (size_t)PEER_ADDRESS_OCTETS * body[PEER_ADDRESS_OCTETS]);
 }
 
 static void take_event(struct call *call, unsigned kind, const uint8_t *body, size_t length)
 {
-    call->kind = kind == PRIMITIVE ? CALL_ASK : kind == FRAME ? CALL_RECEIVE : CALL_PASS;
+    static const enum call_kind kinds[] = { [PRIMITIVE] = CALL_ASK, [FRAME] = CALL_RECEIVE, [CLOCK] = CALL_PASS, [LINKS] = CALL_LINKS };
+
+    call->kind = kinds[kind];
     if (kind == PRIMITIVE) {
         call->primitive = body[0];
         call->address = pt_get48(body + 1);
         call->number = pt_get16(body + 7);
-    } else if (kind == FRAME) {
+    } else if (kind == FRAME || kind == LINKS) {
         memcpy(call->frame, body, length);
         call->frame_octets = length;
     } else {
@@ -64,8 +68,8 @@ static void play(const uint8_t *p, size_t count, struct call *call, struct chanc
         unsigned kind = p[at + 2];
         size_t length = pt_get16(p + at + 3);
 
-        if (p[at] != 0x0B || p[at + 1] != 0x03 || (kind == SETTINGS) != first || !length_fits(kind, length) ||
-            count - at - HEADER < length)
+        if (p[at] != 0x0B || p[at + 1] != 0x03 || (kind == SETTINGS) != first ||
+            count - at - HEADER < length || !length_fits(kind, length, p + at + HEADER))
             return;
         if (first) {
             take_settings(call, p + at + HEADER, length);

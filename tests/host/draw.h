@@ -1,4 +1,4 @@
-/* draw.h - things drawn by chance: addresses, settings, tables well formed and spoilt, frames, primitives, clock steps. */
+/* draw.h - things drawn by chance: addresses, settings, tables well formed and spoilt, frames, primitives, links named, clock steps. */
 #ifndef DRAW_H
 #define DRAW_H
 
@@ -21,7 +21,15 @@ void draw_lengths(struct chance *c, struct call *call);
 void draw_table(struct chance *c, struct call *call);
 void spoil_table(struct chance *c, const peer_settings *s, uint8_t *octets);
 
-/* The record of an address as the call's table stands, or zeros. */
+/* Links: four of each address of the pool; those of a record; the address that a peer's frame comes from, of a link where it has some; a
+   device and its links as our side names them, good and bad; and a link of a record spoilt. */
+uint64_t link_address(unsigned device, unsigned number);
+void draw_links(struct chance *c, unsigned device, struct pt_record *r);
+uint64_t draw_sender(struct chance *c, const struct call *call, uint64_t peer);
+void draw_named(struct chance *c, struct call *call);
+void spoil_links(struct chance *c, const peer_settings *s, uint8_t *r, const uint8_t *other);
+
+/* The record of an address, a device's or a link's, as the call's table stands, or zeros. */
 struct pt_record standing(const struct call *call, uint64_t address);
 
 /* An event that may mean something to the table as it stands; the buffer is nearly always long enough. */

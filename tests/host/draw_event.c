@@ -1,4 +1,4 @@
-/* draw_event.c - frames, primitives and clock steps by chance, most of them such that they mean something. */
+/* draw_event.c - frames, primitives, links named and clock steps by chance, most of them such that they mean something. */
 #include "draw.h"
 
 #include <string.h>
@@ -107,6 +107,8 @@ static void draw_primitive(struct chance *c, struct call *call)
     static const uint16_t codes[] = { 0, 1, 2, 17, 256, 65535 };
 
     call->primitive = of_role[call->settings.role - PEER_AP][below(c, 8)];
+    if (percent(c, 5))
+        call->address = draw_sender(c, call, call->address); /* a link, which no primitive names */
     if (percent(c, 20))
         call->primitive = (uint8_t)below(c, percent(c, 50) ? 13 : 256);
     call->number = ONE_OF(c, codes);
@@ -129,10 +131,12 @@ void draw_event(struct chance *c, struct call *call)
     uint64_t peer = draw_address(c, own_of(call));
     unsigned kind = below(c, 100);
 
-    call->kind = kind < 55 ? CALL_RECEIVE : kind < 92 ? CALL_ASK : CALL_PASS;
+    call->kind = kind < 50 ? CALL_RECEIVE : kind < 82 ? CALL_ASK : kind < 90 ? CALL_LINKS : CALL_PASS;
     call->address = peer;
     if (call->kind == CALL_RECEIVE)
-        draw_frame(c, call, peer & 0xffffffffffffu);
+        draw_frame(c, call, draw_sender(c, call, peer));
+    else if (call->kind == CALL_LINKS)
+        draw_named(c, call);
     else if (call->kind == CALL_ASK)
         draw_primitive(c, call);
     else

@@ -50,14 +50,15 @@ static void draw_query(struct chance *c, const struct pt_settings *s, struct pt_
         r->query_left = percent(c, 30) ? s->query_maximum : 1 + below(c, s->query_maximum);
 }
 
-/* Addresses of the pool from a place drawn, so that none is there twice. */
+/* Addresses of the pool from a place drawn, so that none is there twice; at an AP some are devices with links, or all are. */
 void draw_table(struct chance *c, struct call *call)
 {
     static const unsigned crowds[] = { 3, 20, 60, 95, 100, 100 };
+    static const unsigned linkings[] = { 0, 0, 30, 100 };
     static const uint32_t holds[] = { 1, 2, 50, 1953, 1954, 65535, 65536, 0x7fffffff, 0xffffffff };
     struct pt_settings s = settings_of(&call->settings, call->settings_octets);
     struct pt_record table[PT_PLACES] = { { 0 } };
-    unsigned crowd = ONE_OF(c, crowds), first = below(c, POOL);
+    unsigned crowd = ONE_OF(c, crowds), first = below(c, POOL), linking = s.role == PEER_AP ? ONE_OF(c, linkings) : 0;
     bool joined = false, associating = false, ap = s.role == PEER_AP;
 
     for (unsigned i = 0; i < PT_PLACES; i++) {
@@ -72,6 +73,8 @@ void draw_table(struct chance *c, struct call *call)
         draw_query(c, &s, r);
         if (!ap && percent(c, 40))
             r->hold = ONE_OF(c, holds);
+        if (percent(c, linking))
+            draw_links(c, (first + i * 7) % POOL, r);
     }
     octets_of(table, call->table);
 }
@@ -82,7 +85,7 @@ struct pt_record standing(const struct call *call, uint64_t address)
 
     table_of(call->table, table);
     for (int i = 0; i < PT_PLACES; i++)
-        if (table[i].address == address)
+        if (pt_has_address(&table[i], address))
             return table[i];
     return none;
 }
@@ -107,7 +110,7 @@ void spoil_table(struct chance *c, const peer_settings *s, uint8_t *octets)
     uint8_t *r = octets + PEER_RECORD_OCTETS * below(c, PT_PLACES), *other = octets + PEER_RECORD_OCTETS * below(c, PT_PLACES);
     uint64_t address = percent(c, 30) ? pt_get48(s->own) : ONE_OF(c, odd);
 
-    switch (below(c, 10)) {
+    switch (below(c, 13)) {
     case 0:
         for (int i = 0; i < 8; i++)
             r[i] = (uint8_t)(address >> (8 * i));
@@ -133,6 +136,11 @@ void spoil_table(struct chance *c, const peer_settings *s, uint8_t *octets)
     case 7:
     case 8:
         spoil_query(c, s, r);
+        break;
+    case 9:
+    case 10:
+    case 11:
+        spoil_links(c, s, r, other);
         break;
     default:
         octets[below(c, PEER_TABLE_OCTETS)] ^= (uint8_t)(1u << below(c, 8));

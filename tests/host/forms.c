@@ -3,9 +3,10 @@
 
 #include <string.h>
 
-enum { PHASES = 3, EXCHANGES = 10, QUERIES = 4 };
+enum { PHASES = 3, EXCHANGES = 10, QUERIES = 4, LINKS = 24 };
 
-/* A record's octets: address 8, hold 4, left 2, state 1, exchange 1, identifier 2, what is left of the query 2, query 4, little-endian. */
+/* A record's octets: address 8, hold 4, left 2, state 1, exchange 1, identifier 2, what is left of the query 2, query 4, four links of 6,
+   little-endian. */
 static void octets_of_record(const struct pt_record *r, uint8_t *p)
 {
     for (int i = 0; i < 8; i++)
@@ -17,6 +18,19 @@ static void octets_of_record(const struct pt_record *r, uint8_t *p)
     pt_put16(p + 16, r->identifier);
     pt_put16(p + 18, (uint16_t)r->query_left);
     pt_put32(p + 20, r->query);
+    for (int i = 0; i < PT_LINKS; i++)
+        pt_put48(p + LINKS + PEER_ADDRESS_OCTETS * i, r->links[i]);
+}
+
+/* Links count up to the first slot without one; what stands behind it does not fit there. */
+static void links_of(const uint8_t *p, struct pt_record *r)
+{
+    r->link_count = 0;
+    for (int i = 0; i < PT_LINKS; i++) {
+        r->links[i] = pt_get48(p + PEER_ADDRESS_OCTETS * i);
+        if (r->links[i] != 0 && r->link_count == i)
+            r->link_count++;
+    }
 }
 
 static void record_of(const uint8_t *p, struct pt_record *r)
@@ -32,6 +46,7 @@ static void record_of(const uint8_t *p, struct pt_record *r)
     r->identifier = pt_get16(p + 16);
     r->query_left = pt_get16(p + 18);
     r->query = (uint8_t)pt_get32(p + 20);
+    links_of(p + LINKS, r);
 }
 
 void octets_of(const struct pt_record *table, uint8_t *octets)

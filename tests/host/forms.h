@@ -5,10 +5,10 @@
 #include "peer_table.h"
 #include "rules.h"
 
-/* Writes the 768 octets of an independent table. Its exchanges must be numbers of the library's, 0 to 9, its queries 0 to 3. */
+/* Writes the 1,536 octets of an independent table. Its exchanges must be numbers of the library's, 0 to 9, its queries 0 to 3. */
 void octets_of(const struct pt_record *table, uint8_t *octets);
 
-/* Reads 768 octets; false where a place has an exchange's or a query's number that the independent form can't hold. */
+/* Reads 1,536 octets; false where a place has an exchange's or a query's number that the independent form can't hold. */
 bool table_of(const uint8_t *octets, struct pt_record *table);
 
 /* The lengths of settings: 12, which are of edition 1 without protection, 14, whose query has the usual times, and 18. Then the settings of

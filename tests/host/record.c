@@ -1,7 +1,7 @@
 /* record.c - a call as octets. A head of 32: kind, primitive, number (2), result, whether the table changes, lengths (2 each) of table,
-   settings, frame, out and answer, octets written (2), an octet by which the replay draws alignments, zero, address (8), zeros. Then settings,
-   frame, the table before, where it changes the table after, the octets written to out, and the answer where one is written. Which
-   calls are recorded is drawn by chances of its own, so that recording changes no call. */
+   settings, frame or links named, out and answer, octets written (2), an octet by which the replay draws alignments, zero, address (8), zeros.
+   Then settings, frame or links, the table before, where it changes the table after, the octets written to out, and the answer where one is
+   written. Which calls are recorded is drawn by chances of its own, so that recording changes no call. */
 #include "record.h"
 
 #include <stdio.h>
@@ -28,9 +28,15 @@ static void put(const uint8_t *p, size_t count)
         fwrite(p, 1, count, file);
 }
 
+/* How many octets of a frame, or of links named, the call is lent. */
+static size_t lent_frame(const struct call *c)
+{
+    return c->kind == CALL_RECEIVE || c->kind == CALL_LINKS ? c->frame_octets : 0;
+}
+
 static void put_head(const struct call *c, const struct pt_answer *answer, bool changed)
 {
-    size_t frame = c->kind == CALL_RECEIVE ? c->frame_octets : 0;
+    size_t frame = lent_frame(c);
     const size_t lengths[] = { c->table_octets, c->settings_octets, frame, c->out_octets, c->answer_octets, answer->written };
     uint8_t head[HEAD] = { (uint8_t)c->kind, c->primitive };
 
@@ -54,7 +60,7 @@ void record(const struct call *c, const uint8_t *settings, const struct pt_answe
         return;
     put_head(c, answer, changed);
     put(settings, c->settings_octets);
-    put(c->frame, c->kind == CALL_RECEIVE ? c->frame_octets : 0);
+    put(c->frame, lent_frame(c));
     put(c->table, c->table_octets);
     put(table, changed ? c->table_octets : 0);
     put(out, answer->written);

@@ -19,7 +19,7 @@ static void random_table(struct chance *c, struct call *call)
 
 static void other_length(struct chance *c, struct call *call)
 {
-    static const size_t lengths[] = { 0, 1, 23, 24, 512, 744, 767, 769, 792, 1023, 1024 };
+    static const size_t lengths[] = { 0, 1, 47, 48, 768, 1024, 1488, 1535, 1537, 1584, 1600 };
 
     call->table_kind = TABLE_OF_OTHER_LENGTH;
     call->table_octets = ONE_OF(c, lengths);

@@ -16,7 +16,7 @@ static void print_hex(const char *what, const uint8_t *p, size_t count)
 
 void call_print(const struct call *c)
 {
-    static const char *const names[CALL_KINDS] = { "peer_receive_octets", "peer_ask_octets", "peer_pass_octets" };
+    static const char *const names[CALL_KINDS] = { "peer_receive_octets", "peer_ask_octets", "peer_pass_octets", "peer_links_octets" };
     const peer_settings *s = &c->settings;
 
     printf("  %s, call %lu of %s, out of %zu octets, answer of %zu\n", names[c->kind], c->index, c->source, c->out_octets,
@@ -31,6 +31,8 @@ void call_print(const struct call *c)
         printf("  clock step %u\n", c->number);
     if (c->kind == CALL_RECEIVE)
         print_hex("frame", c->frame, c->frame_octets);
+    if (c->kind == CALL_LINKS)
+        print_hex("device, count and links", c->frame, c->frame_octets);
     print_hex("table", c->table, c->table_octets);
 }
 

@@ -1,4 +1,4 @@
-/* sweep.c - sweeps: every value of one thing, the rest drawn, all three roles and all three calls. */
+/* sweep.c - sweeps: every value of one thing, the rest drawn, all three roles and all four calls. */
 #include "draw.h"
 #include "runs.h"
 
@@ -79,7 +79,7 @@ static void sweep_query(struct chance *c, enum call_kind kind, uint8_t role)
 
 static void sweep_lengths(struct chance *c, enum call_kind kind, uint8_t role)
 {
-    static const size_t tables[] = { 0, 24, 512, 767, 768, 769, 1024 }, outs[] = { 0, 34, 36, 37, 255, 256 };
+    static const size_t tables[] = { 0, 48, 768, 1535, 1536, 1537, 1600 }, outs[] = { 0, 34, 36, 37, 255, 256 };
 
     for (size_t out = 0; out <= 260; out++)
         if (out <= 40 || out >= 250) {

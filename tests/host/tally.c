@@ -5,14 +5,15 @@
 
 enum { MOST = 33 };
 
-enum field { CALLS, ROLES, TABLES, REFUSALS, VERDICTS, NOTICES, DS_WORDS, STATES, TIMEOUTS, KINDS, REJECTIONS, FRAMES, FIELDS };
+enum field { CALLS, LINKED, ROLES, TABLES, REFUSALS, VERDICTS, NOTICES, DS_WORDS, STATES, TIMEOUTS, KINDS, REJECTIONS, FRAMES, FIELDS };
 
 /* What each field is called and how many values it has, all of which must be seen; refusals also for each call, below. */
 static const struct {
     const char *name;
     unsigned values;
 } fields[FIELDS] = {
-    [CALLS] = { "call (receive, ask, pass)", CALL_KINDS },
+    [CALLS] = { "call (receive, ask, pass, links)", CALL_KINDS },
+    [LINKED] = { "links named, where it was done (none to four)", 5 },
     [ROLES] = { "role, of calls that were done (AP, station, ad hoc)", 3 },
     [TABLES] = { "table (corpus, walk, drawn, spoilt, random, of other length)", TABLE_KINDS },
     [REFUSALS] = { "refusal", 10 },
@@ -27,7 +28,8 @@ static const struct {
 };
 
 /* The refusals that each call can give, as bits. */
-static const unsigned possible[CALL_KINDS] = { [CALL_RECEIVE] = 0x01F, [CALL_ASK] = 0x3EF, [CALL_PASS] = 0x00F };
+static const unsigned possible[CALL_KINDS] = { [CALL_RECEIVE] = 0x01F, [CALL_ASK] = 0x3EF, [CALL_PASS] = 0x00F,
+                                                   [CALL_LINKS] = 0x0EF };
 
 static unsigned long counts[FIELDS][MOST], refusals[CALL_KINDS][10], total;
 
@@ -76,6 +78,8 @@ void tally_add(const struct call *call, const struct pt_answer *answer, const ui
     refusals[call->kind][answer->refusal]++;
     if (answer->refusal == PT_DONE)
         counts[ROLES][call->settings.role - PEER_AP]++;
+    if (call->kind == CALL_LINKS && answer->refusal == PT_DONE)
+        counts[LINKED][call->frame[PEER_ADDRESS_OCTETS]]++;
     if (call->kind == CALL_PASS && answer->refusal == PT_DONE)
         add_timeouts(out, answer->written / PEER_TIMEOUT_OCTETS);
     else if (answer->written > 0)
@@ -111,7 +115,7 @@ bool tally_print(void)
     for (int kind = 0; kind < CALL_KINDS; kind++)
         for (unsigned i = 0; i < 10; i++)
             if (possible[kind] >> i & 1 && refusals[kind][i] == 0) {
-                printf("host: refusal %u was never seen from call %d (receive, ask, pass)\n", i, kind);
+                printf("host: refusal %u was never seen from call %d (receive, ask, pass, links)\n", i, kind);
                 all = false;
             }
     return all;

@@ -12,7 +12,7 @@ static void next_frame(struct chance *c, struct call *call, unsigned type, unsig
     draw_octets(c, call->frame, length);
     call->frame[0] = (uint8_t)(type << 2 | subtype << 4);
     pt_put48(call->frame + 4, own_of(call));
-    pt_put48(call->frame + 10, call->address);
+    pt_put48(call->frame + 10, draw_sender(c, call, call->address));
     pt_put16(call->frame + 24, 0);
     pt_put16(call->frame + 26, subtype == PT_AUTH ? draw_transaction(c, call->settings.role) : 0);
     pt_put16(call->frame + 28, subtype == PT_AUTH ? 0 : 0xC001);
@@ -58,6 +58,8 @@ static void on_at_ap(struct chance *c, struct call *call, const struct pt_record
         return;
     else if (r->phase == PT_ASKED)
         next_primitive(call, answers[r->kind], percent(c, 75) ? PEER_STATUS_SUCCESS : PEER_STATUS_TRY_LATER);
+    else if (r->state < 2 && percent(c, 25))
+        draw_named(c, call);
     else if (r->state < 2)
         next_frame(c, call, MANAGEMENT, PT_AUTH, 30);
     else if (r->state == 2 || again)

@@ -1,56 +1,12 @@
-/* ask.c - the primitives from our own side: who may ask them, their refusals, what each does. */
+/* ask.c - the primitives from our own side: their refusals, and what each does. */
 #include "rules.h"
 
-enum {
-    AUTHENTICATE_REQUEST = 1, AUTHENTICATE_RESPONSE = 2, DEAUTHENTICATE = 3, ASSOCIATE_REQUEST = 4,
-    REASSOCIATE_REQUEST = 5, DISASSOCIATE = 6, ASSOCIATE_RESPONSE = 7, REASSOCIATE_RESPONSE = 8,
-    SETPROTECTION = 9, TRANSMIT_REPORT = 10, SA_QUERY = 11, PRIMITIVES = 11
-};
-
 enum { STATUS_UNSPECIFIED = 1 };
-
-/* Which codes a primitive allows. */
-enum codes { ZERO, NOT_ZERO, ANY, ZERO_OR_ONE };
-
-/* The roles, a bit for each, that a primitive is for. */
-enum { AP = 1 << PT_AP, STATION = 1 << PT_STATION, AD_HOC = 1 << PT_AD_HOC };
-
-/* Who may ask each primitive and with which codes. */
-static const struct {
-    uint8_t roles;
-    uint8_t codes;
-} primitives[PRIMITIVES + 1] = {
-    [AUTHENTICATE_REQUEST] = { STATION | AD_HOC, ZERO },
-    [AUTHENTICATE_RESPONSE] = { AP | AD_HOC, ANY },
-    [DEAUTHENTICATE] = { AP | STATION | AD_HOC, NOT_ZERO },
-    [ASSOCIATE_REQUEST] = { STATION, ZERO },
-    [REASSOCIATE_REQUEST] = { STATION, ZERO },
-    [DISASSOCIATE] = { AP | STATION, NOT_ZERO },
-    [ASSOCIATE_RESPONSE] = { AP, ANY },
-    [REASSOCIATE_RESPONSE] = { AP, ANY },
-    [SETPROTECTION] = { AP | STATION, ZERO },
-    [TRANSMIT_REPORT] = { AP, ZERO_OR_ONE },
-    [SA_QUERY] = { AP, ZERO },
-};
-
-static bool code_allowed(uint8_t codes, uint16_t code)
-{
-    switch (codes) {
-    case ZERO:
-        return code == 0;
-    case NOT_ZERO:
-        return code != 0;
-    case ZERO_OR_ONE:
-        return code <= 1;
-    default:
-        return true;
-    }
-}
 
 /* The kind of exchange that primitives 4, 5, 7 and 8 belong to. */
 static uint8_t kind_of(unsigned primitive)
 {
-    return primitive == REASSOCIATE_REQUEST || primitive == REASSOCIATE_RESPONSE
+    return primitive == PT_REASSOCIATE_REQUEST || primitive == PT_REASSOCIATE_RESPONSE
                ? PT_REASSOCIATION : PT_ASSOCIATION;
 }
 
@@ -67,28 +23,28 @@ static enum pt_refusal refusal(const struct pt_step *t, unsigned primitive)
     bool busy = r && r->phase != PT_NONE;
 
     switch (primitive) {
-    case AUTHENTICATE_REQUEST:
+    case PT_AUTHENTICATE_REQUEST:
         if (busy)
             return PT_BUSY;
         return r || t->view.free >= 0 ? PT_DONE : PT_FULL;
-    case AUTHENTICATE_RESPONSE:
+    case PT_AUTHENTICATE_RESPONSE:
         return has_asked(t, PT_AUTHENTICATION) ? PT_DONE : PT_NO_MATCH;
-    case ASSOCIATE_REQUEST:
-    case REASSOCIATE_REQUEST:
+    case PT_ASSOCIATE_REQUEST:
+    case PT_REASSOCIATE_REQUEST:
         if (busy || t->view.associating)
             return PT_BUSY;
         /* An association is not for a station whose associated AP is another one. */
-        if (primitive == ASSOCIATE_REQUEST && t->view.joined >= 0 && t->view.joined != t->view.peer)
+        if (primitive == PT_ASSOCIATE_REQUEST && t->view.joined >= 0 && t->view.joined != t->view.peer)
             return PT_NO_MATCH;
         return r && r->hold > 0 ? PT_HELD : PT_DONE;
-    case ASSOCIATE_RESPONSE:
-    case REASSOCIATE_RESPONSE:
+    case PT_ASSOCIATE_RESPONSE:
+    case PT_REASSOCIATE_RESPONSE:
         return has_asked(t, kind_of(primitive)) ? PT_DONE : PT_NO_MATCH;
-    case SETPROTECTION:
+    case PT_SETPROTECTION:
         return r && r->state >= 3 ? PT_DONE : PT_NO_MATCH;
-    case TRANSMIT_REPORT:
+    case PT_TRANSMIT_REPORT:
         return r && r->phase == PT_AWAITING ? PT_DONE : PT_NO_MATCH;
-    case SA_QUERY:
+    case PT_SA_QUERY:
         return r && r->query == PT_QUERY_DUE ? PT_DONE : PT_NO_MATCH;
     default:
         return PT_DONE;
@@ -195,30 +151,30 @@ static void transmit_report(struct pt_step *t, uint16_t acknowledged)
 static void act(struct pt_step *t, unsigned primitive, uint16_t code)
 {
     switch (primitive) {
-    case AUTHENTICATE_REQUEST:
+    case PT_AUTHENTICATE_REQUEST:
         authenticate_request(t);
         break;
-    case AUTHENTICATE_RESPONSE:
+    case PT_AUTHENTICATE_RESPONSE:
         authenticate_response(t, code);
         break;
-    case DEAUTHENTICATE:
+    case PT_DEAUTHENTICATE:
         deauthenticate(t, code);
         break;
-    case ASSOCIATE_REQUEST:
-    case REASSOCIATE_REQUEST:
+    case PT_ASSOCIATE_REQUEST:
+    case PT_REASSOCIATE_REQUEST:
         associate_request(t, kind_of(primitive));
         break;
-    case DISASSOCIATE:
+    case PT_DISASSOCIATE:
         disassociate(t, code);
         break;
-    case ASSOCIATE_RESPONSE:
-    case REASSOCIATE_RESPONSE:
+    case PT_ASSOCIATE_RESPONSE:
+    case PT_REASSOCIATE_RESPONSE:
         associate_response(t, kind_of(primitive), code);
         break;
-    case SETPROTECTION: /* 9: State 3 to 4; State 4 kept */
+    case PT_SETPROTECTION: /* 9: State 3 to 4; State 4 kept */
         pt_move(t, 4);
         break;
-    case TRANSMIT_REPORT:
+    case PT_TRANSMIT_REPORT:
         transmit_report(t, code);
         break;
     default: /* 11 */
@@ -237,13 +193,15 @@ struct pt_answer pt_ask(const struct pt_settings *s, struct pt_record *table,
         return pt_refuse(PT_BUFFER);
     if (!pt_look(s, table, peer, &view))
         return pt_refuse(PT_ILL_FORMED);
-    if (primitive < 1 || primitive > PRIMITIVES || !pt_valid(peer) || peer == s->own ||
-        !code_allowed(primitives[primitive].codes, code))
+    /* A primitive names the device, never one of its links. */
+    if (!pt_known(primitive, code) || !pt_valid(peer) || peer == s->own || view.linked)
         return pt_refuse(PT_BAD_INPUT);
-    if ((primitives[primitive].roles & 1 << s->role) == 0)
+    if (!pt_may_ask(s->role, primitive))
         return pt_refuse(PT_WRONG_ROLE);
 
     struct pt_step t = pt_begin(s, table, &view, peer, out);
+    if (t.record && t.record->link_count > 0)
+        t.peer = t.record->links[0];
     enum pt_refusal number = refusal(&t, primitive);
     if (number != PT_DONE)
         return pt_refuse(number);

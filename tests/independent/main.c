@@ -16,7 +16,9 @@ enum { HEADER = 5, SCRATCH = 256, OUTPUT_BUFFER = 1 << 16 };
 /* Lengths: the first settings, with edition and protection behind them, with a query's times too,
    with a network's address too. */
 enum { SETTINGS_FIRST = 12, SETTINGS_EDITIONS = 14, SETTINGS_QUERY = 18, SETTINGS_NETWORK = 24 };
-enum record_kind { SETTINGS = 0, PRIMITIVE = 1, FRAME = 2, CLOCK = 3 };
+/* Lengths of a list of links: device and count, then each link. */
+enum { LINKS_FIRST = 7, LINKS_EACH = 6, LINKS_MOST = LINKS_FIRST + 255 * LINKS_EACH };
+enum record_kind { SETTINGS = 0, PRIMITIVE = 1, FRAME = 2, CLOCK = 3, LINKS = 4 };
 enum got { GOT_RECORD, GOT_END, GOT_FAULT, GOT_READ_ERROR };
 
 struct input {
@@ -32,7 +34,8 @@ struct bench {
     uint64_t events;
 };
 
-/* The length each kind of record must have: 12, 14, 18 or 24, 9, a frame of 0 to 4,096, 2. */
+/* The length each kind of record must have: 12, 14, 18 or 24, 9, a frame of 0 to 4,096, 2, and for
+   links some 7 + 6 x count, whose count comes in the body. */
 static bool length_fits(unsigned kind, size_t length)
 {
     switch (kind) {
@@ -45,6 +48,8 @@ static bool length_fits(unsigned kind, size_t length)
         return length <= PT_FRAME_MAX;
     case CLOCK:
         return length == 2;
+    case LINKS:
+        return length >= LINKS_FIRST && length <= LINKS_MOST;
     default:
         return false;
     }
@@ -65,6 +70,8 @@ static enum got read_record(struct input *in, bool first)
         return GOT_FAULT;
     if (fread(in->body, 1, in->length, stdin) < in->length)
         return ferror(stdin) ? GOT_READ_ERROR : GOT_FAULT;
+    if (in->kind == LINKS && in->length != LINKS_FIRST + (size_t)LINKS_EACH * in->body[6])
+        return GOT_FAULT;
     return GOT_RECORD;
 }
 
@@ -85,6 +92,16 @@ static void take_settings(struct pt_settings *s, const uint8_t *body, size_t len
     s->network = length < SETTINGS_NETWORK ? 0 : pt_get48(body + 18);
 }
 
+/* Primitive 12; more links than a device can have are counted only. */
+static struct pt_answer run_links(struct bench *b, const uint8_t *body)
+{
+    uint64_t links[PT_LINKS] = { 0 };
+
+    for (size_t i = 0; i < body[6] && i < PT_LINKS; i++)
+        links[i] = pt_get48(body + LINKS_FIRST + LINKS_EACH * i);
+    return pt_link(&b->settings, b->table, pt_get48(body), links, body[6], SCRATCH);
+}
+
 /* One event, with 256 zero bytes of scratch. */
 static struct pt_answer run(struct bench *b, const struct input *in)
 {
@@ -92,6 +109,8 @@ static struct pt_answer run(struct bench *b, const struct input *in)
     if (in->kind == PRIMITIVE)
         return pt_ask(&b->settings, b->table, in->body[0], pt_get48(in->body + 1),
                       pt_get16(in->body + 7), b->scratch, SCRATCH);
+    if (in->kind == LINKS)
+        return run_links(b, in->body);
     if (in->kind == FRAME)
         return pt_receive(&b->settings, b->table, in->body, in->length, b->scratch, SCRATCH);
     return pt_clock(&b->settings, b->table, pt_get16(in->body), b->scratch, SCRATCH);
@@ -125,8 +144,21 @@ static void print_address(uint64_t address)
     print_octets(octets, sizeof octets);
 }
 
+/* The links of a place, where it has some. */
+static void print_links(int place, const struct pt_record *r)
+{
+    if (r->link_count == 0)
+        return;
+    printf("  links %d", place);
+    for (int i = 0; i < r->link_count; i++) {
+        putchar(' ');
+        print_address(r->links[i]);
+    }
+    putchar('\n');
+}
+
 /* The trace: octets written, the current AP of a reassociation indication, places not free, each
-   with its query where there is or was one. */
+   with its links, and with its query where there is or was one. */
 static void print_trace(const struct bench *b, const struct pt_answer *a)
 {
     if (a->written > 0) {
@@ -148,6 +180,7 @@ static void print_trace(const struct bench *b, const struct pt_answer *a)
         printf("  place %d ", i);
         print_address(r->address);
         printf(" %u %u %" PRIu32 " %" PRIu32 "\n", (unsigned)r->state, exchange, r->left, r->hold);
+        print_links(i, r);
         if (r->identifier != 0 || r->query != PT_NO_QUERY)
             printf("  query %d %u %u %" PRIu32 "\n", i, (unsigned)r->identifier,
                    (unsigned)r->query, r->query_left);

@@ -14,7 +14,8 @@ enum {
     PT_CLOCK_OUT_LEAST = 256, /* least output buffer of a clock step */
     PT_TIME_MAX = 65535,   /* largest timeout, and largest time left of an exchange */
     PT_HOLD_USUAL = 1954,  /* the hold of 2 s, rounded up */
-    PT_QUERY_RETRY_USUAL = 201, PT_QUERY_MAXIMUM_USUAL = 1000
+    PT_QUERY_RETRY_USUAL = 201, PT_QUERY_MAXIMUM_USUAL = 1000,
+    PT_LINKS = 4           /* most links of a device */
 };
 
 enum pt_role { PT_AP = 1, PT_STATION = 2, PT_AD_HOC = 3 };
@@ -38,6 +39,14 @@ enum pt_notice {
 enum pt_refusal {
     PT_DONE = 0, PT_BUFFER = 1, PT_ILL_FORMED = 2, PT_BAD_INPUT = 3, PT_FOREIGN = 4,
     PT_WRONG_ROLE = 5, PT_FULL = 6, PT_NO_MATCH = 7, PT_HELD = 8, PT_BUSY = 9
+};
+
+/* The primitives with one peer and a code; primitive 12, with a list of links, has its own call. */
+enum pt_primitive {
+    PT_AUTHENTICATE_REQUEST = 1, PT_AUTHENTICATE_RESPONSE = 2, PT_DEAUTHENTICATE = 3,
+    PT_ASSOCIATE_REQUEST = 4, PT_REASSOCIATE_REQUEST = 5, PT_DISASSOCIATE = 6,
+    PT_ASSOCIATE_RESPONSE = 7, PT_REASSOCIATE_RESPONSE = 8, PT_SETPROTECTION = 9,
+    PT_TRANSMIT_REPORT = 10, PT_SA_QUERY = 11, PT_PRIMITIVES = 11
 };
 
 /* Management subtypes of the standard that the rules name. */
@@ -66,9 +75,12 @@ struct pt_settings {
     uint64_t network;       /* the ad hoc network's address; the other two roles do not look at it */
 };
 
-/* One place of the table. A free place is all zero. */
+/* One place of the table. A free place is all zero. The address is the device's; links behind the
+   count are zero. */
 struct pt_record {
     uint64_t address;
+    uint64_t links[PT_LINKS];
+    uint8_t link_count;
     uint32_t left;
     uint32_t hold;
     uint8_t state;
@@ -91,7 +103,7 @@ struct pt_answer {
     uint8_t state;
 };
 
-/* The three calls. `table` is PT_PLACES records of any contents. */
+/* The four calls. `table` is PT_PLACES records of any contents. */
 struct pt_answer pt_receive(const struct pt_settings *s, struct pt_record *table,
                             const uint8_t *frame, size_t frame_len,
                             uint8_t *out, size_t out_len);
@@ -100,12 +112,17 @@ struct pt_answer pt_ask(const struct pt_settings *s, struct pt_record *table,
                         uint8_t *out, size_t out_len);
 struct pt_answer pt_clock(const struct pt_settings *s, struct pt_record *table,
                           uint16_t step, uint8_t *out, size_t out_len);
+/* Primitive 12: these are the links of a device. Nothing is written; of more than four links only
+   their number is looked at. */
+struct pt_answer pt_link(const struct pt_settings *s, struct pt_record *table, uint64_t device,
+                         const uint64_t *links, size_t count, size_t out_len);
 
 /* ---- From here on: shared by the library's own files. ---- */
 
 /* What one pass over the table finds; a place is -1 where there is none. */
 struct pt_view {
-    int peer;         /* the peer's record */
+    int peer;         /* the peer's record, where the address looked for is the device's or a link's */
+    bool linked;      /* that address is a link's */
     int free;         /* lowest free place */
     int joined;       /* a record in State 3 or 4; a station has at most one */
     bool associating; /* some (re)association exchange is under way */
@@ -117,7 +134,7 @@ struct pt_step {
     struct pt_record *table;
     struct pt_view view;
     struct pt_record *record; /* the peer's, or NULL */
-    uint64_t peer;
+    uint64_t peer; /* whom a frame is written to, and the address of a new record */
     uint8_t *out;
     struct pt_answer a;
 };
@@ -135,6 +152,13 @@ struct pt_step pt_begin(const struct pt_settings *s, struct pt_record *table,
 void pt_move(struct pt_step *t, uint8_t state);
 void pt_new_record(struct pt_step *t);
 void pt_exchange(struct pt_record *r, enum pt_phase phase, uint8_t kind, uint32_t left);
+
+/* Which primitives there are, and for whom (primitives.c). */
+bool pt_known(unsigned primitive, uint16_t code);
+bool pt_may_ask(uint8_t role, unsigned primitive);
+
+/* The links of a device (link.c). */
+bool pt_links_fit(const struct pt_settings *s, const struct pt_record *r);
 
 /* An SA Query (query.c). */
 bool pt_query_fits(const struct pt_settings *s, const struct pt_record *r);
@@ -166,6 +190,17 @@ static inline struct pt_answer pt_refuse(enum pt_refusal number)
 static inline bool pt_valid(uint64_t address)
 {
     return address != 0 && (address & 1) == 0 && address >> 48 == 0;
+}
+
+/* Whether the address is the record's device's or one of its links'. */
+static inline bool pt_has_address(const struct pt_record *r, uint64_t address)
+{
+    if (r->address == address)
+        return true;
+    for (int i = 0; i < r->link_count; i++)
+        if (r->links[i] == address)
+            return true;
+    return false;
 }
 
 static inline uint16_t pt_get16(const uint8_t *p)

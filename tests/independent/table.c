@@ -23,7 +23,8 @@ static bool settings_fit(const struct pt_settings *s)
 static bool is_free(const struct pt_record *r)
 {
     return r->address == 0 && (r->left | r->hold | r->query_left) == 0 && r->identifier == 0 &&
-           (r->state | r->phase | r->kind | r->query) == 0;
+           (r->state | r->phase | r->kind | r->query | r->link_count) == 0 &&
+           (r->links[0] | r->links[1] | r->links[2] | r->links[3]) == 0;
 }
 
 /* The exchange fits the role and the state, and its time left fits the exchange. */
@@ -53,14 +54,25 @@ static bool exchange_fits(uint8_t role, const struct pt_record *r)
 static bool record_fits(const struct pt_settings *s, const struct pt_record *r)
 {
     return r->state >= 1 && r->state <= (s->role == PT_AD_HOC ? 2 : 4) && pt_valid(r->address) &&
-           r->address != s->own && (s->role != PT_AP || r->hold == 0) && exchange_fits(s->role, r) && pt_query_fits(s, r);
+           r->address != s->own && (s->role != PT_AP || r->hold == 0) && exchange_fits(s->role, r) && pt_query_fits(s, r) &&
+           pt_links_fit(s, r);
+}
+
+/* Two records have no address in common, of a device or of a link. A free place has none. */
+static bool apart(const struct pt_record *r, const struct pt_record *other)
+{
+    if (pt_has_address(other, r->address))
+        return false;
+    for (int i = 0; i < r->link_count; i++)
+        if (pt_has_address(other, r->links[i]))
+            return false;
+    return true;
 }
 
 bool pt_look(const struct pt_settings *s, const struct pt_record *table, uint64_t peer,
              struct pt_view *view)
 {
-    uint64_t seen[PT_PLACES];
-    int used = 0, joined = 0, associating = 0;
+    int joined = 0, associating = 0;
 
     if (!settings_fit(s))
         return false;
@@ -75,13 +87,14 @@ bool pt_look(const struct pt_settings *s, const struct pt_record *table, uint64_
         }
         if (!record_fits(s, r))
             return false;
-        /* No address stands in two places. */
-        for (int j = 0; j < used; j++)
-            if (seen[j] == r->address)
+        for (int j = 0; j < i; j++)
+            if (!apart(r, &table[j]))
                 return false;
-        seen[used++] = r->address;
-        if (r->address == peer)
+        /* No address stands twice, so the order of the search makes no difference. */
+        if (pt_has_address(r, peer)) {
             view->peer = i;
+            view->linked = r->address != peer;
+        }
         if (r->state >= 3) {
             view->joined = i;
             joined++;
@@ -158,10 +171,10 @@ static uint8_t age_exchange(struct pt_record *r, uint32_t step)
     return kind;
 }
 
-/* A record in State 1 without an exchange and with hold 0 has nothing left to keep. */
+/* A record in State 1 without an exchange, with hold 0 and without links has nothing left to keep. */
 static bool is_idle(const struct pt_record *r)
 {
-    return r->state == 1 && r->phase == PT_NONE && r->hold == 0;
+    return r->state == 1 && r->phase == PT_NONE && r->hold == 0 && r->link_count == 0;
 }
 
 /* Refusals 1, 2, 3; then one pass in rising place. What befalls one record does not touch another,

@@ -2,7 +2,7 @@
 
 Events of one name must do the same to a state, so the names are as fine as the rules: the status
 is 0 or not, the AID is in range or not, the elements end with the frame or not, a frame is to our
-own address or to a group.
+own address or to a group. A frame by a link has the name of one from the device's own address.
 """
 
 import collections
@@ -13,6 +13,8 @@ from tools import bench_input as bench
 OWN = bench.address("02:00:00:00:00:0a")
 PEER = bench.address("02:00:00:00:01:01")
 OTHER = bench.address("02:00:00:00:01:02")
+# The links that the peer may name, in this order.
+LINKS = bench.address("02:00:00:00:02:01"), bench.address("02:00:00:00:02:02")
 NETWORK = bench.address("06:00:00:00:00:ad")
 TIMEOUT = 100
 QUERY_RETRY, QUERY_MAXIMUM = 30, 100
@@ -48,6 +50,17 @@ def primitives(about):
     return [Event(f"primitive-{which}", primitive_cause(which, code), about,
                   bench.primitive(which, about, code))
             for which in range(13) for code in CODES]
+
+
+@functools.lru_cache(maxsize=None)
+def lists(about):
+    """Primitive 12 with the links, with none, and with lists and devices at fault by one thing each."""
+    bad = [(about, (one,)) for one in (OWN, bench.ZERO, bench.BROADCAST, about)]
+    bad += [(about, LINKS[:1] * 2), (about, LINKS * 3), (OWN, LINKS), (bench.ZERO, ())]
+    kinds = [("links named", about, LINKS), ("links taken away", about, ())]
+    kinds += [("links at fault", device, links) for device, links in bad]
+    return [Event("primitive-12", cause, about, bench.links(device, links))
+            for cause, device, links in kinds]
 
 
 def clocks():
@@ -152,3 +165,9 @@ def other_frames(about):
 def events(about, odd):
     """All events about a peer, with those frames that have no rule or without them."""
     return acting_frames(about) + primitives(about) + (other_frames(about) if odd else [])
+
+
+@functools.lru_cache(maxsize=None)
+def by_links(about):
+    """The frames with a rule of a device with links, by its second one; they count as the device's."""
+    return [event._replace(about=about) for event in acting_frames(LINKS[1]) + queries(LINKS[1])]

@@ -20,7 +20,7 @@ def told(said):
     """The octets written, in hexadecimal, and the one record's hold and query, of an event's lines."""
     octets = "".join(line.split()[1] for line in said if line.startswith("  octets "))
     rows = list(situations.rows(said).values())
-    return octets, [row.hold for row in rows], [row[4:] for row in rows]
+    return octets, [row.hold for row in rows], [row[4:7] for row in rows]
 
 
 def played(name, scene, side, command):

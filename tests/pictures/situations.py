@@ -1,8 +1,8 @@
 """Every situation that a table can come to with two peers, and every move of a state on the way.
 
-A situation is what the two records hold: state, exchange, whether a hold runs, and the query. From the empty
-table each event of the alphabet is tried in each situation found so far, until none is new. The
-program alone says what comes of an event: its trace shows the table.
+A situation is what the two records hold: state, exchange, whether a hold runs, the query, and whether
+there are links. From the empty table each event of the alphabet is tried in each situation found so far,
+until none is new. The program alone says what comes of an event: its trace shows the table.
 """
 
 import collections
@@ -12,18 +12,21 @@ import subprocess
 from tools import bench_input as bench
 
 from .alphabet import (LONGEST_STEP, NETWORK, OTHER, OWN, PEER, QUERY_MAXIMUM, QUERY_RETRY, TIMEOUT,
-                       clocks, events)
+                       by_links, clocks, events, lists)
 
 PLACE = re.compile(r"  place \d+ ([0-9a-f]{12}) (\d+) (\d+) (\d+) (\d+)")
+LINKS = re.compile(r"  links \d+((?: [0-9a-f]{12}){1,4})")
 QUERY = re.compile(r"  query \d+ (\d+) (\d+) (\d+)")
 KINDS = {7: "authentication", 8: "association", 9: "reassociation"}
 USUAL_HOLD = 1954
 SECONDS = 120
-# Both records given up, and time for every hold: the table is empty again.
+# Both records given up, and time for every hold: the table is empty again. At an access point there is
+# one record, whose links are given up too.
 RESET = [bench.primitive(3, PEER, 3), bench.primitive(3, OTHER, 3), bench.clock(LONGEST_STEP)]
+RESET_AP = [bench.primitive(3, PEER, 3), bench.links(PEER, ()), bench.clock(LONGEST_STEP)]
 
-Row = collections.namedtuple("Row", "state exchange left hold identifier query query_left",
-                             defaults=(0, 0, 0))
+Row = collections.namedtuple("Row", "state exchange left hold identifier query query_left links",
+                             defaults=(0, 0, 0, 0))
 NO_ROW = Row(0, 0, 0, 0)
 Turn = collections.namedtuple("Turn", "event verdict ds before after")
 Move = collections.namedtuple("Move", "role rsna rule before after ds hold by cause")
@@ -50,17 +53,21 @@ def run(command, octets):
 
 
 def rows(said):
-    """The rows after an event by address; the line of a query stands behind that of its place."""
+    """The rows after an event by address; the lines of links and of a query stand behind that of their
+    place."""
     found, address = {}, None
     for line in said:
-        place, query = PLACE.match(line), QUERY.match(line)
+        place, links, query = (form.match(line) for form in (PLACE, LINKS, QUERY))
         if place:
             address = bytes.fromhex(place.group(1))
             found[address] = Row(*map(int, place.groups()[1:]))
-        elif query and address is None:
+        elif (links or query) and address is None:
             raise Trouble(f"no place before '{line}'")
+        elif links:
+            found[address] = found[address]._replace(links=len(links.group(1).split()))
         elif query:
-            found[address] = Row(*found[address][:4], *map(int, query.groups()))
+            row = found[address]
+            found[address] = Row(*row[:4], *map(int, query.groups()), row.links)
     return found
 
 
@@ -71,14 +78,17 @@ def rows_of(said):
 
 
 def situation(both):
-    return tuple((row.state, row.exchange, row.hold > 0, row.query) for row in both)
+    return tuple((row.state, row.exchange, row.hold > 0, row.query, row.links > 0) for row in both)
 
 
 def alphabet(role, now):
     """All events about the peer and, at a station, about the other: elsewhere no event looks at
-    another record. Frames without a rule are tried where the other has no record."""
+    another record. Frames without a rule are tried where the other has no record. Links are named at
+    an access point, and where the peer has some its frames come by one of them too."""
     others = events(OTHER, False) if role == bench.STATION else []
-    return events(PEER, now[1][0] == 0) + others + clocks()
+    linked = lists(PEER) if role == bench.ACCESS_POINT else []
+    linked = linked + (by_links(PEER) if now[0][-1] else [])
+    return events(PEER, now[1][0] == 0) + linked + others + clocks()
 
 
 def tried(command, role, rsna, rule, found):
@@ -86,9 +96,10 @@ def tried(command, role, rsna, rule, found):
     rule is edition and protection."""
     words = TIMEOUT, TIMEOUT, *rule, QUERY_RETRY, QUERY_MAXIMUM, NETWORK
     records, trials = [bench.settings(role, OWN, rsna, *words)], []
+    reset = RESET_AP if role == bench.ACCESS_POINT else RESET
     for now, path in found.items():
         for event in alphabet(role, now):
-            records += RESET + path + [event.octets]
+            records += reset + path + [event.octets]
             trials.append((event, len(records) - 2, now))
     said = run(command, b"".join(records))
     if len(said) != len(records) - 1:
@@ -129,22 +140,23 @@ def hold_set(turn, before, after):
     return "1954" if after.hold == USUAL_HOLD else f"{after.hold}?"
 
 
-def clock_cause(step, before, after):
+def clock_cause(role, step, before, after):
     """What a clock step found: an exchange that ran out, or none; for a record that is freed, a hold
-    that is over, or not."""
+    that is over, or not, and at an access point whether it has links."""
     if before.left and before.left <= step:
         why = f"{KINDS.get(before.exchange, 'an exchange of an AP')} timed out"
     else:
         why = "exchange under way" if before.exchange else "no exchange"
     if after.state:
         return why
-    return why + (", no hold left" if before.hold <= step else ", a hold left")
+    why += ", no hold left" if before.hold <= step else ", a hold left"
+    return why + (", links" if before.links else ", no links" if role == bench.ACCESS_POINT else "")
 
 
-def cause_of(turn, address, before, after):
+def cause_of(role, turn, address, before, after):
     """The event's name, as the record with this address sees it."""
     if turn.event.by == "clock":
-        return clock_cause(int(turn.event.cause.split()[0]), before, after)
+        return clock_cause(role, int(turn.event.cause.split()[0]), before, after)
     if turn.event.about == address:
         return turn.event.cause
     return f"{turn.event.cause}, {'from' if turn.event.by == 'frame' else 'to'} another AP"
@@ -157,7 +169,7 @@ def moves_of(turn, role, rsna, rule):
             ds = turn.ds if turn.event.about == address else "-"
             yield Move(role, rsna, rule, before.state, after.state, ds,
                        hold_set(turn, before, after), turn.event.by,
-                       cause_of(turn, address, before, after))
+                       cause_of(role, turn, address, before, after))
 
 
 def query_cause(turn, before):
@@ -183,11 +195,12 @@ def query_moves_of(turn, role, rsna, rule):
 
 
 def one_cause_one_outcome(turns):
-    """Events of one name do the same to both states and queries in one situation; the first that do not."""
+    """Events of one name do the same to both states, queries and links in one situation; the first that
+    do not."""
     seen = {}
     for turn in turns:
         key = (situation(turn.before), turn.event.by, turn.event.cause, turn.event.about)
-        states = tuple((row.state, row.query) for row in turn.after)
+        states = tuple((row.state, row.query, row.links) for row in turn.after)
         if seen.setdefault(key, states) != states:
             return f"'{turn.event.cause}' in {key[0]} leads to {seen[key]} and to {states}"
     return None

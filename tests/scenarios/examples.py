@@ -22,7 +22,8 @@ EXAMPLES = ROOT / "examples"
 GOOD = "ap own=02:00:00:00:00:01"
 AD_HOC, NETWORK = "ad-hoc own=02:00:00:00:00:01", "06:00:00:00:00:ad"
 SETTINGS = "the settings are not well formed"
-ASKED = "unknown primitive, peer address invalid or our own, or code not allowed"
+ASKED = "unknown primitive, peer address invalid, our own or a link's, or code not allowed"
+NAMED = "over four links, or an address that is invalid, our own, given twice or in use elsewhere"
 HEARD = "too short, Address 2 is invalid or our own, or a response whose elements do not end with it"
 REFUSED = [
     (f"{GOOD} rsna=2", "clock 1", 2, SETTINGS), (f"{GOOD} timeouts=0,1", "clock 1", 2, SETTINGS),
@@ -40,6 +41,9 @@ REFUSED = [
     (GOOD, "prim query 02:00:00:00:00:0a", 7, "no SA Query request to this peer is due"),
     (GOOD, "prim query 02:00:00:00:00:0a code=1", 3, ASKED),
     ("station own=02:00:00:00:00:01", "prim query 02:00:00:00:00:0a", 5, "this primitive is not for a station"),
+    (GOOD, "prim 12 02:00:00:00:00:0a", 3, ASKED), (GOOD, "links 02:00:00:00:00:0a own", 3, NAMED),
+    (GOOD, "links own none", 3, NAMED), (f"{GOOD} rsna=2", "links own none", 2, SETTINGS),
+    ("station own=02:00:00:00:00:01", "links 02:00:00:00:00:0a none", 5, "this primitive is not for a station"),
     (GOOD, "clock 0", 3, "a clock step is at least 1 TU"),
     (GOOD, "prim 255 02:00:00:00:00:0a", 3, ASKED),
     (GOOD, "prim report 02:00:00:00:00:0a acknowledged=2", 3, ASKED),

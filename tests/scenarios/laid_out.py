@@ -89,6 +89,21 @@ def settings_as_laid_out():
     return faults + ([] if read.bench_inputs(lines) == wanted else ["two settings lines"])
 
 
+def links_as_laid_out():
+    """A list of links: one by one, as a range, of more than a device can have, and of none."""
+    first = f"ap own={OWN}\nname r-1..6 = 02:00:00:00:00:f0"
+    r = [bench.address(f"02:00:00:00:00:f{n}") for n in range(6)]
+    pairs = [("r-1", r[:1]), ("r-2 r-1", r[1::-1]), ("r-1..4", r[:4]), (f"r-1..2 {OTHER}", r[:2] + [OTHER]),
+             ("r-1..6", r), ("own", [OWN]), ("none", [])]
+    faults = []
+    for words, wanted in pairs:
+        made = read.read(f"{first}\nlinks {PEER} {words}\n", "test")[1][2].events
+        laid = bytes((len(wanted),)) + b"".join(bench.address(link) for link in wanted)
+        if [made_.record for made_ in made] != [bench.record(4, bench.address(PEER) + laid)]:
+            faults.append(words)
+    return faults
+
+
 def primitives_by_word_and_number():
     """A primitive by its word is the one by its number, with the code by either name."""
     faults = []

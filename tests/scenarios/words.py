@@ -14,8 +14,8 @@ from tests.comparison import generate
 from tools import bench_input as bench
 from tools.scenario import answers, frame_words, frames, manual, primitives, read
 
-from .laid_out import (OTHER, OWN, PEER, event, frames_as_laid_out, primitives_by_word_and_number,
-                       settings_as_laid_out)
+from .laid_out import (OTHER, OWN, PEER, event, frames_as_laid_out, links_as_laid_out,
+                       primitives_by_word_and_number, settings_as_laid_out)
 from .wrong import all_wrong
 
 ROOT = pathlib.Path(__file__).resolve().parents[2]
@@ -92,7 +92,7 @@ def frames_round_trip():
 def generated_frames_round_trip():
     """Frames of the generated walks: what is read from their octets writes the same octets."""
     faults, read_back = [], 0
-    for job in [job for role in generate.ROLES for job in generate.plan(1, GENERATED, role)]:
+    for job in [job for walk in generate.WALKS for job in generate.plan(1, GENERATED, walk)]:
         octets = generate.make(job)
         while octets:
             end = bench.HEAD + int.from_bytes(octets[3:5], "little")
@@ -107,11 +107,13 @@ def generated_frames_round_trip():
 def odd_answers_are_told():
     """A bench program that prints what it never should, or can't be run, is a fault with a line."""
     line, place = "1 0 - 0 0 0 - 0\n", "  place 0 02000000000a 1 0 0 0\n"
-    query = "  query 1 1 2 1000\n"
+    query, links = "  query 1 1 2 1000\n", "  links 1 020000000101\n"
     wanted = [("stop\n", "the bench program printed 'stop', which is no line of its trace"),
               (place + line, f"the bench program printed '{place[:-1]}', which is no line of its trace"),
               (line + query, f"the bench program printed '{query[:-1]}', which is no line of its trace"),
               (line + place + query, f"the bench program printed '{query[:-1]}', which is no line of its trace"),
+              (line + links, f"the bench program printed '{links[:-1]}', which is no line of its trace"),
+              (line + place + links, f"the bench program printed '{links[:-1]}', which is no line of its trace"),
               ("", "the bench program gave 0 answers to 1 events"),
               (line + line, "the bench program gave 2 answers to 1 events")]
     faults = []
@@ -187,8 +189,9 @@ def help_is_whole():
 
 def main():
     tests = (words_cover_classes, frames_round_trip, generated_frames_round_trip,
-             frames_as_laid_out, settings_as_laid_out, help_is_whole, primitives_by_word_and_number,
-             odd_answers_are_told, faults_are_told, twice_settled_has_no_octets, command_line_faults)
+             frames_as_laid_out, settings_as_laid_out, links_as_laid_out, help_is_whole,
+             primitives_by_word_and_number, odd_answers_are_told, faults_are_told,
+             twice_settled_has_no_octets, command_line_faults)
     failed = 0
     for test in tests:
         faults = test()

@@ -6,9 +6,9 @@ START = ["ap own=02:00:00:00:00:01", "name p = 02:00:00:00:00:0a", "name s-1..3 
 LINES = [
     ("fram data from=p", "'fram' is no word to begin a line: did you mean 'frame'?"),
     ("\x1b[2J", "'?[2J' is no word to begin a line: "
-     "one of name, ap, station, ad-hoc, settings, frame, prim, clock"),
+     "one of name, ap, station, ad-hoc, settings, frame, prim, links, clock"),
     ("reboot", "'reboot' is no word to begin a line: "
-     "one of name, ap, station, ad-hoc, settings, frame, prim, clock"),
+     "one of name, ap, station, ad-hoc, settings, frame, prim, links, clock"),
     ("ap", "ap needs own=ADDRESS, our own address"),
     ("frame", "frame needs a word for its kind, as auth-request, or raw and octets"),
     ("frame auth-requst from=p", "'auth-requst' is no frame: did you mean 'auth-request'?"),
@@ -97,6 +97,16 @@ LINES = [
     ("name q = 02:00:00:00:00:0a",
      "02:00:00:00:00:0a has the name 'p' already: one name for each address"),
     ("name own = 02:00:00:00:00:0b", "'own' has its meaning already: choose another name"),
+    ("name none = 02:00:00:00:00:0b", "'none' has its meaning already: choose another name"),
+    ("links", "a links line is: links DEVICE ADDRESS .., or links DEVICE none"),
+    ("links p", "a links line is: links DEVICE ADDRESS .., or links DEVICE none"),
+    ("links s-1..2 p", "device: 's-1..2' is 2 addresses: one is wanted here"),
+    ("links p q", "link: no address has the name 'q': 'name q = ..' gives one"),
+    ("links p none s-1", "none stands alone: links DEVICE none"),
+    ("links p s-1, s-2", "link: 's-1,' is neither an address, as 02:00:00:00:00:0a, nor a name, "
+     "as scanner, nor a range of names, as scanner-1..30"),
+    ("links p" + 86 * " s-1..3", "258 links: at most 255 can be given"),
+    ("link p s-1", "'link' is no word to begin a line: did you mean 'links'?"),
     ("name 1q = 02:00:00:00:00:0b", "name: '1q' is neither an address, as 02:00:00:00:00:0a, "
      "nor a name, as scanner, nor a range of names, as scanner-1..30"),
     ("name t-1..2 = ff:ff:ff:ff:ff:ff",

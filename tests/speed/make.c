@@ -113,6 +113,14 @@ void ask(struct maker *m, uint8_t primitive, uint64_t address, uint16_t code)
     *next_event(m) = (struct event){ .kind = EVENT_PRIMITIVE, .primitive = primitive, .address = address, .number = code };
 }
 
+void name_links(struct maker *m, uint64_t device, const uint64_t *links, uint32_t count)
+{
+    struct event *e = next_event(m);
+
+    *e = (struct event){ .kind = EVENT_LINKS, .address = device, .length = count };
+    memcpy(e->links, links, count * sizeof *links);
+}
+
 void let_pass(struct maker *m, uint16_t step)
 {
     *next_event(m) = (struct event){ .kind = EVENT_CLOCK, .number = step };

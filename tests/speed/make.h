@@ -33,6 +33,7 @@ void hear_response(struct maker *m, uint64_t from, bool again, uint16_t status, 
 void hear_query(struct maker *m, uint64_t from, uint8_t action, uint16_t identifier);
 void hear_farewell(struct maker *m, bool deauthentication, uint64_t to, uint64_t from);
 void ask(struct maker *m, uint8_t primitive, uint64_t address, uint16_t code);
+void name_links(struct maker *m, uint64_t device, const uint64_t *links, uint32_t count);
 void let_pass(struct maker *m, uint16_t step);
 
 /* Weights: `left` was drawn below their sum; true for the one that it falls to. */
@@ -54,5 +55,6 @@ void make_clock_ap(struct maker *m, unsigned peers);
 void make_clock_station(struct maker *m, unsigned peers);
 void make_forged_ap(struct maker *m, unsigned peers);
 void make_ad_hoc(struct maker *m, unsigned peers);
+void make_tablets_ap(struct maker *m, unsigned peers);
 
 #endif

@@ -16,6 +16,8 @@ static peer_answer by_library(const peer_settings *s, const struct event *e)
         return peer_receive(&lent, s, e->frame, e->length, out, sizeof out);
     if (e->kind == EVENT_PRIMITIVE)
         return peer_ask(&lent, s, e->primitive, e->address, e->number, out, sizeof out);
+    if (e->kind == EVENT_LINKS)
+        return peer_links(&lent, s, e->address, e->links, e->length, out, sizeof out);
     return peer_pass(&lent, s, e->number, out, sizeof out);
 }
 
@@ -25,6 +27,8 @@ static struct pt_answer by_independent(const struct pt_settings *s, const struct
         return pt_receive(s, table, e->frame, e->length, to, OUT);
     if (e->kind == EVENT_PRIMITIVE)
         return pt_ask(s, table, e->primitive, e->address, e->number, to, OUT);
+    if (e->kind == EVENT_LINKS)
+        return pt_link(s, table, e->address, e->links, e->length, OUT);
     return pt_clock(s, table, e->number, to, OUT);
 }
 

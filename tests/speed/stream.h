@@ -4,17 +4,18 @@
 
 #include "forms.h"
 
-enum { STREAM_EVENTS = 2048, SETUP_MOST = 256, FRAME_OCTETS = 4 * 1024 * 1024 };
+enum { STREAM_EVENTS = 2048, SETUP_MOST = 512, FRAME_OCTETS = 4 * 1024 * 1024 };
 
-enum event_kind { EVENT_FRAME, EVENT_PRIMITIVE, EVENT_CLOCK };
+enum event_kind { EVENT_FRAME, EVENT_PRIMITIVE, EVENT_CLOCK, EVENT_LINKS };
 
 struct event {
     enum event_kind kind;
     uint8_t primitive;
     uint16_t number; /* code or clock step */
-    uint32_t length;
+    uint32_t length; /* of the frame, or how many links */
     uint64_t address;
     const uint8_t *frame;
+    uint64_t links[PT_LINKS];
 };
 
 /* The setup brings the table to where the stream starts; only the events after it are measured. */

@@ -7,7 +7,7 @@ enum { HEAD = 32, GUARD = 32, ALIGNMENTS = 8, PAINT = 0xA5, CHUNK = 64 };
 enum { TABLE, SETTINGS, FRAME, OUT, ANSWER, SLICES };
 
 /* Room for each slice, its guards and its alignment. */
-static uint8_t tables[1024 + 2 * GUARD + ALIGNMENTS], settings[64 + 2 * GUARD + ALIGNMENTS], frames[5000 + 2 * GUARD + ALIGNMENTS],
+static uint8_t tables[1600 + 2 * GUARD + ALIGNMENTS], settings[64 + 2 * GUARD + ALIGNMENTS], frames[5000 + 2 * GUARD + ALIGNMENTS],
     outs[4200 + 2 * GUARD + ALIGNMENTS], answers[64 + 2 * GUARD + ALIGNMENTS];
 static const struct {
     uint8_t *octets;

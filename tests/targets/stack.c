@@ -3,12 +3,13 @@
 #include "stack.h"
 #include "peer_table_octets.h"
 
-enum { AREA = 2048, PAINT = 0x5A };
+enum { AREA = 2560, PAINT = 0x5A };
 
 struct functions {
     uint64_t (*receive)(uint8_t *, uint64_t, const uint8_t *, uint64_t, const uint8_t *, uint64_t, uint8_t *, uint64_t, uint8_t *, uint64_t);
     uint64_t (*ask)(uint8_t *, uint64_t, const uint8_t *, uint64_t, uint8_t, uint64_t, uint16_t, uint8_t *, uint64_t, uint8_t *, uint64_t);
     uint64_t (*pass)(uint8_t *, uint64_t, const uint8_t *, uint64_t, uint16_t, uint8_t *, uint64_t, uint8_t *, uint64_t);
+    uint64_t (*links)(uint8_t *, uint64_t, const uint8_t *, uint64_t, const uint8_t *, uint64_t, uint8_t *, uint64_t, uint8_t *, uint64_t);
 };
 
 static uint64_t no_receive(uint8_t *t, uint64_t tn, const uint8_t *s, uint64_t sn, const uint8_t *f, uint64_t fn, uint8_t *o, uint64_t on,
@@ -32,8 +33,8 @@ static uint64_t no_pass(uint8_t *t, uint64_t tn, const uint8_t *s, uint64_t sn, 
 }
 
 /* Through a volatile pointer, so that no compiler sees which function it is. */
-static const struct functions library = { peer_receive_octets, peer_ask_octets, peer_pass_octets };
-static const struct functions nothing = { no_receive, no_ask, no_pass };
+static const struct functions library = { peer_receive_octets, peer_ask_octets, peer_pass_octets, peer_links_octets };
+static const struct functions nothing = { no_receive, no_ask, no_pass, no_receive };
 static const struct functions *volatile called;
 static size_t deepest;
 
@@ -48,6 +49,8 @@ static __attribute__((noinline)) uint64_t make(const struct replayed *c)
         return f->receive(table, tables, settings, sets, frame, c->slices[2].octets, out, outs, answer, answers);
     if (c->kind == 1)
         return f->ask(table, tables, settings, sets, c->primitive, c->address, c->number, out, outs, answer, answers);
+    if (c->kind == 3)
+        return f->links(table, tables, settings, sets, frame, c->slices[2].octets, out, outs, answer, answers);
     return f->pass(table, tables, settings, sets, c->number, out, outs, answer, answers);
 }
 

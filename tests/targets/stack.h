@@ -5,9 +5,9 @@
 #include <stddef.h>
 #include <stdint.h>
 
-/* What a call is given: slices in the order table, settings, frame, out, answer. */
+/* What a call is given: slices in the order table, settings, frame or links named, out, answer. */
 struct replayed {
-    uint8_t kind; /* 0 a frame, 1 a primitive, 2 a clock step */
+    uint8_t kind; /* 0 a frame, 1 a primitive, 2 a clock step, 3 links named */
     uint8_t primitive;
     uint16_t number;
     uint64_t address;

@@ -10,8 +10,8 @@ from .words import QUERIES, REFUSALS, frame_words, notice_words, primitive_words
 
 ROW, LINE = 34, 16
 TOP = 92
-# The lifelines of each side's own side, table and peer, and of an attacker.
-Lines = collections.namedtuple("Lines", "own table peer attacker", defaults=(None,))
+# The lifelines of each side's own side, table and peer, of an attacker, and of a peer's radios by address.
+Lines = collections.namedtuple("Lines", "own table peer attacker radios", defaults=(None, {}))
 
 
 def parted(words, room):
@@ -44,10 +44,12 @@ class Chart:
             self.canvas.rectangle(x - wide / 2, self.top - 46, wide, 30, "#eff2f5", "#8c959f")
             self.canvas.text(x, self.top - 26.5, name, anchor="middle", bold=True, over=True)
 
-    def message(self, start, end, words, kind=None, stroke=INK, dashed=False, near=None):
-        """An arrow with its words above it: over all of it, or from its start to a lifeline `near`
+    def message(self, start, end, words, kind=None, stroke=INK, dashed=False):
+        """An arrow with its words above it: over all of it, or from its start to the first lifeline
         that it crosses."""
-        indent, edge = TEXT_AT if kind else 0, end if near is None else near
+        crossed = [x for x in self.lifelines if min(start, end) < x < max(start, end)]
+        indent = TEXT_AT if kind else 0
+        edge = min(crossed, key=lambda x: abs(x - start), default=end)
         lines = parted(words, abs(edge - start) - 16 - indent)
         self.y += ROW + LINE * (len(lines) - 1)
         wide = max(width_of(line) for line in lines) + indent
@@ -81,16 +83,18 @@ def event_message(chart, lines, step, heard):
     if kind == "ask":
         chart.message(lines.own, lines.table, primitive_words(*step.event[1:]),
                       f"primitive-{step.event[1]}", AMBER)
+    elif kind == "links":
+        chart.message(lines.own, lines.table, primitive_words(12, len(step.event[1])), "primitive-12", AMBER)
     elif kind == "clock":
         chart.y += 10
         chart.badge(lines.table, f"{step.event[1]} TU pass", PAPER, "clock")
     elif step.forged:
-        chart.message(lines.attacker, lines.table, frame_words(step.event[1]) + ", forged", None, RED,
-                      near=lines.peer)
+        chart.message(lines.attacker, lines.table, frame_words(step.event[1]) + ", forged", None, RED)
     elif step.event[1] not in heard:
         alone = (verdict, notice) == ("A", "0") and step.event[1] != ACK
         judged = ", admitted" if alone else ", discarded" if verdict == "D" else ""
-        chart.message(lines.peer, lines.table, frame_words(step.event[1]) + judged, None, BLUE,
+        sender = lines.radios.get(step.event[1][10:16], lines.peer)
+        chart.message(sender, lines.table, frame_words(step.event[1]) + judged, None, BLUE,
                       step.event[1] == ACK)
 
 
@@ -100,7 +104,8 @@ def answer_messages(chart, lines, step):
     if refusal != "0":
         chart.message(lines.table, lines.own, REFUSALS[int(refusal)], None, RED)
     if step.sent:
-        chart.message(lines.table, lines.peer, frame_words(step.sent), None, BLUE)
+        receiver = lines.radios.get(step.sent[4:10], lines.peer)
+        chart.message(lines.table, receiver, frame_words(step.sent), None, BLUE)
     if notice != "0":
         chart.message(lines.table, lines.own, notice_words(int(notice), code), None, MUTED)
     if ds != "-":

@@ -5,7 +5,7 @@ With --check it names those that are otherwise.
 
 import sys
 
-from . import charts, crossing, forged, move_list, states
+from . import charts, crossing, forged, move_list, states, tablet
 
 FOLDER = move_list.LIST.parent
 
@@ -16,7 +16,8 @@ def pictures():
     canvases = {f"states_{name.replace('-', '_')}": states.picture(role, lines)
                 for name, role in move_list.ROLES.items()}
     canvases |= {"join": charts.join(), "comeback": charts.comeback(),
-                 "forged_rejoin": forged.forged_rejoin(), "crossing": crossing.crossing()}
+                 "forged_rejoin": forged.forged_rejoin(), "crossing": crossing.crossing(),
+                 "tablet": tablet.tablet()}
     for name, canvas in canvases.items():
         if canvas.faults():
             raise move_list.Fault(f"{name}: " + "; ".join(canvas.faults()))

@@ -37,6 +37,12 @@ def freed_by_clock(moves, _):
     return {move.by for move in moves if move.after == 0} == {"clock"}
 
 
+def links_keep_a_place(moves, _):
+    """Naming links makes a record, and no record with links is freed."""
+    return any(move.by == "primitive-12" and move.before == 0 for move in moves) and all(
+        move.cause.endswith("no links") for move in moves if move.after == 0)
+
+
 def bad_aid_does_nothing(moves, _):
     return not any("bad AID" in move.cause for move in moves)
 
@@ -72,7 +78,8 @@ NOTES = {
           "moves nothing."), protected_rejection_keeps),
         (("In edition 2 with protection a request in", "State 4 is answered with status 30 and moves",
           "nothing: an SA Query asks the peer first."), query_keeps_out),
-        FREED),
+        (FREED[0] + ("A device with links keeps its place.",),
+         lambda *listed: freed_by_clock(*listed) and links_keep_a_place(*listed))),
     2: ((("A success with an AID outside 1 to 2007", "moves nothing."), bad_aid_does_nothing),
         REPEATED,
         (("One AP at a time is in State 3 or 4:", "a success at another lowers the first."),

@@ -12,12 +12,15 @@ AP = bench.address("02:00:00:00:00:01")
 STATION = bench.address("02:00:00:00:00:0a")
 ONE, TWO = bench.address("02:00:00:00:01:01"), bench.address("02:00:00:00:01:02")
 NETWORK = bench.address("06:00:00:00:00:ad")
-# Each side's own address, its peer's, and its role.
-OWN = {"ap": AP, "station": STATION, "one": ONE, "two": TWO}
-PEER = {"ap": STATION, "station": AP, "one": TWO, "two": ONE}
-ROLE = {"ap": bench.ACCESS_POINT, "station": bench.STATION, "one": bench.AD_HOC, "two": bench.AD_HOC}
+TABLET = bench.address("02:00:00:00:02:00")
+RADIOS = tuple(bench.address(f"02:00:00:00:02:0{n}") for n in (1, 2, 3))
+# Each side's own address, its peer's, and its role; `site` is an access point with a tablet.
+OWN = {"ap": AP, "station": STATION, "one": ONE, "two": TWO, "site": AP}
+PEER = {"ap": STATION, "station": AP, "one": TWO, "two": ONE, "site": TABLET}
+ROLE = {"ap": bench.ACCESS_POINT, "station": bench.STATION, "one": bench.AD_HOC, "two": bench.AD_HOC,
+        "site": bench.ACCESS_POINT}
 
-# side: whose table; event: ("ask", primitive, code), ("hear", octets) or ("clock", TU);
+# side: whose table; event: ("ask", primitive, code), ("hear", octets), ("clock", TU) or ("links", links);
 # answer: the bench line without its number; sent: the octets written; hold and query: the peer's after
 # it, a query as its identifier, its case and what is left; forged: whether somebody else sent the frame.
 Step = collections.namedtuple("Step", "side event answer sent hold query forged",
@@ -150,11 +153,39 @@ ONE_ASKS = (
 )
 
 
+# A tablet whose three radios are named beforehand joins by the second of them. A reply goes to the radio
+# that it answers, what our own side asks for to the first one.
+EARLY = bench.data(AP, RADIOS[2])
+TABLET_JOINS = (
+    Step("site", ("links", RADIOS), "0 - 0 0 0 - 1"),
+    Step("site", ("hear", EARLY), "0 D 0 0 26 - 1",
+         bench.management(bench.DEAUTHENTICATION, RADIOS[2], AP, bench.number(7), third=AP)),
+    Step("site", ("hear", authentication(AP, RADIOS[1], 1)), "0 A 1 0 0 - 1"),
+    Step("site", ("ask", 2, 0), "0 - 0 0 30 - 2", authentication(RADIOS[0], AP, 2)),
+    Step("site", ("hear", bench.association_request(AP, RADIOS[1])), "0 A 5 0 0 - 2"),
+    Step("site", ("ask", 7, 0), "0 - 0 0 30 - 2", bench.association_response(RADIOS[0], AP)),
+    Step("site", ("ask", 10, 1), "0 - 0 0 0 J 4"),
+    Step("site", ("hear", bench.data(AP, RADIOS[0])), "0 A 0 0 0 - 4"),
+    Step("site", ("hear", EARLY), "0 A 0 0 0 - 4"),
+)
+TABLET_PARTS = {0: "Named", 2: "Joined once", 7: "Data"}
+
+# Not drawn, but what the chart says of a farewell rests on it: by one radio it is the tablet's, the clock
+# leaves the record, and only without links is it freed.
+TABLET_LEAVES = TABLET_JOINS + (
+    Step("site", ("hear", bench.deauthentication(AP, RADIOS[2])), "0 A 3 3 0 L 1"),
+    Step("site", ("clock", 65535), "0 - 0 0 0 - 0"),
+    Step("site", ("hear", EARLY), "0 D 0 0 26 - 1", TABLET_JOINS[1].sent),
+)
+
+
 def record(step):
     """The bench record of a step; a primitive is about the other side."""
     kind, *rest = step.event
     if kind == "ask":
         return bench.primitive(rest[0], PEER[step.side], rest[1])
+    if kind == "links":
+        return bench.links(PEER[step.side], rest[0])
     return bench.frame(rest[0]) if kind == "hear" else bench.clock(rest[0])
 
 
@@ -173,4 +204,5 @@ SCENES = {"join": Scene(JOIN), "comeback 0": Scene(AUTHENTICATED + COMEBACK_0),
           "thrown out": Scene(JOINED + THROWN_OUT, (1, 0)),
           "asked first": Scene(JOIN + ASKED_FIRST, (2, 1)),
           "unanswered": Scene(JOINED + UNANSWERED, (2, 1)),
-          "both ask": Scene(BOTH_ASK), "one asks": Scene(ONE_ASKS)}
+          "both ask": Scene(BOTH_ASK), "one asks": Scene(ONE_ASKS),
+          "tablet": Scene(TABLET_LEAVES)}

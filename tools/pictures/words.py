@@ -4,7 +4,7 @@ NAMES = {0: "Association request", 1: "Association response", 10: "Disassociatio
          11: "Authentication", 12: "Deauthentication"}
 PRIMITIVES = {1: "AUTHENTICATE.request", 2: "AUTHENTICATE.response, status {}",
               4: "ASSOCIATE.request", 7: "ASSOCIATE.response, status {}",
-              10: "transmit report, {}", 11: "SA-QUERY.request"}
+              10: "transmit report, {}", 11: "SA-QUERY.request", 12: "links of the tablet, {}"}
 REPORTS = ("not acknowledged", "acknowledged")
 NOTICES = {1: "AUTHENTICATE.indication", 2: "AUTHENTICATE.confirm, status {}",
            5: "ASSOCIATE.indication", 6: "ASSOCIATE.confirm, status {}"}

@@ -4,16 +4,17 @@ import collections
 import re
 import subprocess
 
-# The query is 0 none, 1 running, 2 running with its request due, 3 timed out.
+# The query is 0 none, 1 running, 2 running with its request due, 3 timed out; the links are addresses.
 Record = collections.namedtuple("Record", "place address state exchange left hold identifier query "
-                                "query_left", defaults=(0, 0, 0))
+                                "query_left links", defaults=(0, 0, 0, ()))
 Answer = collections.namedtuple(
     "Answer", "number refusal verdict notice code written ds state octets current table")
 
 LINE = re.compile(r"(\d+) (\d+) ([AD-]) (\d+) (\d+) (\d+) ([JL-]) (\d+)")
 TRACE = re.compile(r"  (?:(octets|current) ([0-9a-f]+)|"
                    r"place (\d+) ([0-9a-f]{12}) (\d+) (\d+) (\d+) (\d+)|"
-                   r"query (\d+) (\d+) (\d+) (\d+))")
+                   r"query (\d+) (\d+) (\d+) (\d+)|"
+                   r"links (\d+)((?: [0-9a-f]{12}){1,4}))")
 SECONDS = 120
 
 
@@ -43,8 +44,9 @@ def _event(found):
 
 
 def _add(event, found):
-    """One line of the trace. That of a query is about the place of the last line; says whether it is."""
-    what, digits, place, address, query = found.group(1, 2, 3, 4, 9)
+    """One line of the trace. Those of links and of a query are about the place of the last one; says
+    whether it is."""
+    what, digits, place, address, query, linked, links = found.group(1, 2, 3, 4, 9, 13, 14)
     table = event["table"]
     if what:
         event[what] = bytes.fromhex(digits)
@@ -54,9 +56,11 @@ def _add(event, found):
         table[octets] = Record(int(place), octets, *numbers)
     else:
         last = list(table.values())[-1] if table else None
-        if last is None or last.place != int(query):
+        if last is None or last.place != int(query or linked):
             return False
-        table[last.address] = Record(*last[:6], *(int(text) for text in found.group(10, 11, 12)))
+        new = dict(links=tuple(map(bytes.fromhex, links.split()))) if links else dict(
+            zip(("identifier", "query", "query_left"), map(int, found.group(10, 11, 12))))
+        table[last.address] = last._replace(**new)
     return True
 
 

@@ -52,7 +52,8 @@ REFUSALS = {
 REFUSAL_3 = {
     "frame": "too short, Address 2 is invalid or our own, or a response whose elements do not end "
              "with it",
-    "prim": "unknown primitive, peer address invalid or our own, or code not allowed",
+    "prim": "unknown primitive, peer address invalid, our own or a link's, or code not allowed",
+    "links": "over four links, or an address that is invalid, our own, given twice or in use elsewhere",
     "clock": "a clock step is at least 1 TU",
 }
 REFUSAL_7 = {
@@ -63,6 +64,7 @@ REFUSAL_7 = {
     9: "the peer is not in State 3 or 4",
     10: "no response to this peer awaits its acknowledgement",
     11: "no SA Query request to this peer is due",
+    12: "the device is not in State 1",
 }
 
 

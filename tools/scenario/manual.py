@@ -32,16 +32,19 @@ frame there. Only class 1 passes, and data with to-ds=0 and from-ds=0 (as it is 
 all actions are of it.
 Another settings line begins anew: an empty table, events counted from 1, the names kept.
 
-  name NAME = ADDRESS              a name for an address; 'own' and 'broadcast' have theirs
+  name NAME = ADDRESS              a name for an address; 'own', 'broadcast' and 'none' are taken
   name scanner-1..30 = ADDRESS     thirty names, for this address and those that follow it
   frame WORD FIELD=..              a frame comes in
   frame raw 00 01 00*20 ..         a frame by its octets
   prim WORD|NUMBER ADDRESS CODE=.. a primitive of our own side
+  links DEVICE ADDRESS ..          primitive 12 at an AP: these are the links of a device in State 1, one to
+                                   four; 'links DEVICE none' takes them away
   clock TU                         time passes, 1 to 65535 TU
 
-A line with a range of names, as from=scanner-1..30, is played once for each. Numbers are decimal or,
-with 0x, hexadecimal, and have to fit their field. What fits and the rules refuse is played all the
-same and gets its refusal number.
+A line with a range of names, as from=scanner-1..30, is played once for each; behind links DEVICE it is so
+many links. A device has one record for all its links: a frame comes from=LINK, a primitive names the
+device. Numbers are decimal or, with 0x, hexadecimal, and have to fit their field. What fits and the rules
+refuse is played all the same and gets its refusal number.
 """
 
 

@@ -7,7 +7,7 @@ from tools import bench_input as bench
 from . import frame_words, frames, primitives
 from .values import Fault, Names, number, octets, one_of
 
-# An event: its record, kind ('frame', 'prim', 'clock'), the peer it names, the primitive's number,
+# An event: its record, kind ('frame', 'prim', 'links', 'clock'), the peer it names, the primitive's number,
 # the octets of a frame, and whether the scenario gives these by themselves.
 Event = collections.namedtuple("Event", "record kind peer primitive frame raw")
 # A line, its events, and the settings that it gives, None where it gives none.
@@ -21,7 +21,8 @@ ROLES = {"ap": bench.ACCESS_POINT, "station": bench.STATION, "ad-hoc": bench.AD_
 RULE = {"edition": 0xFF, "protection": 0xFF, "query-retry": 0xFFFF, "query-maximum": 0xFFFF}
 SETTINGS = ["own", "rsna", "timeouts", *RULE, "network"]
 FIRST = "ap, station, ad-hoc or settings"
-VERBS = ("name", *ROLES, "settings", "frame", "prim", "clock")
+VERBS = ("name", *ROLES, "settings", "frame", "prim", "links", "clock")
+MOST_LINKS = 255
 
 
 class ScenarioFault(Exception):
@@ -59,7 +60,8 @@ class Reader:
             return Line(text.rstrip(), [], self.settings)
         if verb != "name" and self.settings is None:
             raise Fault(f"'{verb}' comes before the settings: the first line is {FIRST}")
-        takes = {"name": self._name, "frame": self._frame, "prim": self._prim, "clock": self._clock}
+        takes = {"name": self._name, "frame": self._frame, "prim": self._prim, "links": self._links,
+                 "clock": self._clock}
         return Line(text.rstrip(), takes[verb](words[1:]) if words else [], None)
 
     def begin(self, settings):
@@ -156,6 +158,18 @@ class Reader:
         code = number(text, next(iter(given), row.code), 0xFFFF)
         return [Event(bench.primitive(row.number, peer, code), "prim", peer, row.number, b"", False)
                 for peer in peers]
+
+    def _links(self, words):
+        if len(words) < 2:
+            raise Fault("a links line is: links DEVICE ADDRESS .., or links DEVICE none")
+        device = self._single(words[0], "device")
+        if "none" in words[1:] and len(words) > 2:
+            raise Fault("none stands alone: links DEVICE none")
+        named = [word for word in words[1:] if word != "none"]
+        links = [link for word in named for link in self.names.find(word, "link")]
+        if len(links) > MOST_LINKS:
+            raise Fault(f"{len(links)} links: at most {MOST_LINKS} can be given")
+        return [Event(bench.links(device, links), "links", device, 12, b"", False)]
 
     @staticmethod
     def _clock(words):

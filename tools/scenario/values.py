@@ -11,6 +11,8 @@ ADDRESS = re.compile(r"[0-9a-fA-F]{2}(?::[0-9a-fA-F]{2}){5}")
 NAME = re.compile(r"[A-Za-z][A-Za-z0-9_-]*")
 RANGE = re.compile(r"([A-Za-z][A-Za-z0-9_-]*?)([0-9]{1,9})\.\.([0-9]{1,9})")
 LONGEST_RANGE = 256
+# Names that have their meaning: two addresses, and no link at all.
+TAKEN = ("own", "broadcast", "none")
 MOST_DIGITS = 20
 
 
@@ -66,7 +68,7 @@ class Names:
         self._addresses["own"] = address
 
     def _give(self, name, address):
-        if name in ("own", "broadcast"):
+        if name in TAKEN:
             raise Fault(f"'{name}' has its meaning already: choose another name")
         if name in self._addresses:
             taken = bench.address_text(self._addresses[name])

@@ -39,6 +39,11 @@ def query(record):
             3: f"{number} timed out: the next request passes"}[record.query]
 
 
+def links(record, say):
+    """The links of a device; '' where it has none."""
+    return "links " + " ".join(map(say, record.links)) if record.links else ""
+
+
 def details(record, no_hold="", no_query=""):
     """Exchange, hold and query, each behind a comma; no_hold and no_query are said where there is none."""
     parts = [exchange(record), f"hold {record.hold} TU" if record.hold else no_hold,
@@ -46,16 +51,19 @@ def details(record, no_hold="", no_query=""):
     return "".join(", " + part for part in parts if part)
 
 
-def change(name, old, new, rejected=False):
-    """One record after an event, against the one before."""
+def change(say, old, new, rejected=False):
+    """One record after an event, against the one before; its links where they are new."""
+    name = say((new or old).address)
     if new is None:
         return f"{name}: place {old.place} free again"
     if old is None:
-        return f"{name}: new record in place {new.place}, {state(new.state)}{details(new)}"
+        named = ", " + links(new, say) if new.links else ""
+        return f"{name}: new record in place {new.place}, {state(new.state)}{named}{details(new)}"
     moved = "stays in " if old.state == new.state else f"State {old.state} -> "
     no_hold = "no hold" if rejected else "hold over" if old.hold else ""
     no_query = {0: "", 3: "the timed-out SA Query is used up"}.get(old.query, "SA Query over")
-    return f"{name}: {moved}{state(new.state)}{details(new, no_hold, no_query)}"
+    named = "" if old.links == new.links else ", " + (links(new, say) or "no links")
+    return f"{name}: {moved}{state(new.state)}{named}{details(new, no_hold, no_query)}"
 
 
 def shortened(octets):
@@ -115,16 +123,22 @@ def notice(answer, say):
     return text
 
 
+def device(address, table):
+    """The device that has this address as a link; the address itself where none has."""
+    return next((record.address for record in table.values() if address in record.links), address)
+
+
 def records(event, answer, before, say):
     """The peer's record, and every other that is not as it was."""
-    lines, after, peer = [], answer.table, event.peer
+    after = answer.table
+    lines, peer = [], device(event.peer, after)
     if peer in after:
         rejected = answer.notice in JOIN_CONFIRMS and answer.code != 0
-        lines.append(change(say(peer), before.get(peer), after[peer], rejected))
+        lines.append(change(say, before.get(peer), after[peer], rejected))
     elif peer is not None:
         lines.append(f"{say(peer)}: no record")
     places = {**before, **after}
-    others = [change(say(address), before.get(address), after.get(address))
+    others = [change(say, before.get(address), after.get(address))
               for address in sorted(places, key=lambda known: places[known].place)
               if address != peer and before.get(address) != after.get(address)]
     return lines + merge.lines(others)
@@ -158,4 +172,5 @@ def table(answer, say):
         return ["table: empty"]
     rows = sorted(answer.table.values(), key=lambda record: record.place)
     return ["table:"] + [f"  place {row.place}: {say(row.address)} {bench.address_text(row.address)}, "
-                         f"{state(row.state)}{details(row)}" for row in rows]
+                         f"{state(row.state)}{', ' + links(row, say) if row.links else ''}{details(row)}"
+                         for row in rows]

@@ -5,6 +5,7 @@ pub mod Lines
 pub mod Moves
 pub mod Outputs
 pub mod Pending
+pub mod PendingExample
 pub mod Puts
 pub mod Refills
 pub mod TableLines

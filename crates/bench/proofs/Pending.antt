@@ -1,8 +1,7 @@
--- Where there is room for all lines, what is pending is what was pending before and then the lines; and an event asks for 4,800 octets.
+-- Where there is room for all lines, what is pending is what was pending before and then the lines; and an event asks for 6,848 octets.
 -- Assumes nothing.
 use Prim.Native.Nat.{ℕ, _+_, _*_, _≤_}
-use mathlib.Core.Path.{_≡_, refl, sym, ap, _∙_}
-use mathlib.Core.Bool.{Bool, true, false}
+use mathlib.Core.Path.{_≡_, sym, ap, _∙_}
 use mathlib.Core.List.{List, [], _∷_, _++_, append-assoc, append-nil}
 use native.Mathlib.Omega.{arith}
 use lib.Dec.{ltb, eqb}
@@ -10,6 +9,7 @@ use lib.ListN.{length, take, drop, length-append, length-drop}
 use lib.Seq.{length-take-le, take-at}
 use borrow.Author.Tests.{le-leb, ltb-false}
 use Rattle.octets.proofs.Branch.{pick-by}
+use Rattle.octets.specs.Links.{noLinks}
 use Rattle.peer.specs.Record.{isFree}
 use Rattle.peer.specs.declared.record.Record.{Record}
 use Rattle.table.specs.declared.rules.answer.Answer.{Answer}
@@ -18,10 +18,10 @@ use Rattle.bench.specs.Line.{lineOf}
 use Rattle.bench.specs.Output.{Output, Line, upTo, putOf, putAll, pending, said, roomFor, short}
 use Rattle.bench.specs.Play.{numberAfter}
 use Rattle.bench.specs.Run.{playedOf, scratchOf, eventLines, eventOutput}
-use Rattle.bench.specs.Trace.{currentLines, hasQuery, octetsLines, placeLine, placeLines, queryLine, queryLines, tableLines, traceLines}
+use Rattle.bench.specs.Trace.{currentLines, hasQuery, linksLine, linksLines, octetsLines, placeLine, placeLines, queryLine, queryLines, tableLines, traceLines}
 use Rattle.bench.specs.declared.run.Run.{Run}
 use Rattle.bench.proofs.Lines.{front-length, back-length}
-use Rattle.bench.proofs.TraceLines.{octets-line-length, current-line-length, name-length, times-length, query-name-length, query-times-length}
+use Rattle.bench.proofs.TraceLines.{octets-line-length, current-line-length, name-length, times-length, query-name-length, query-times-length, links-line-length}
 
 -- No line is longer than the room that it asks for.
 pub data Fitting : List Line → Type 0 where
@@ -109,13 +109,17 @@ query-within : (i : ℕ) (p : Record) → Within 64 (queryLines i p)
 unfolding queryLines
 query-within i p = pick-by (Within 64) (hasQuery p) (λ e. one-line _ (query-length i p) (omega arith)) (λ e. no-line)
 
-place-within : (i : ℕ) (p : Record) → Within 128 (placeLines i p)
+links-within : (i : ℕ) (p : Record) → Within 64 (linksLines i p)
+unfolding linksLines
+links-within i p = pick-by (Within 64) (noLinks (p .links)) (λ e. no-line) (λ e. one-line (short (linksLine i p)) (links-line-length i p) (omega arith))
+
+place-within : (i : ℕ) (p : Record) → Within 192 (placeLines i p)
 unfolding placeLines
 place-within i p =
-    pick-by (Within 128) (isFree p) (λ e. no-line)
-    (λ e. both {m = 64} (one-line (short (placeLine i p)) (place-length i p) (omega arith)) (query-within i p))
+    pick-by (Within 192) (isFree p) (λ e. no-line)
+    (λ e. both {m = 64} (one-line (short (placeLine i p)) (place-length i p) (omega arith)) (both {m = 64} (links-within i p) (query-within i p)))
 
-table-within : (i : ℕ) (t : List Record) → Within (128 * length t) (tableLines i t)
+table-within : (i : ℕ) (t : List Record) → Within (192 * length t) (tableLines i t)
 unfolding tableLines
 table-within i [] = no-line
 table-within i (p ∷ t) =
@@ -126,7 +130,7 @@ line-length : (n : ℕ) (a : Answer) → length (lineOf n a) ≤ 64
 unfolding lineOf
 line-length n a = simp length-append (omega (arith, front-length n a, back-length a))
 
-trace-within : (a : Answer) (s : List ℕ) (t : List Record) → length s ≡ 256 → length t ≡ 32 → Within 4736 (traceLines a s t)
+trace-within : (a : Answer) (s : List ℕ) (t : List Record) → length s ≡ 256 → length t ≡ 32 → Within 6784 (traceLines a s t)
 unfolding traceLines
 trace-within a s t h g =
     let w = both (both (octets-within (a .written) s h) (current-within a)) (table-within 0 t) in
@@ -134,13 +138,13 @@ trace-within a s t h g =
 
 -- An event of a table of 32 records.
 module _ (r : Run) (e : Event) (xs : List ℕ) (h : length (scratchOf r e xs) ≡ 256) (g : length (playedOf r e xs .table) ≡ 32) where
-  pub event-within : Within 4800 (eventLines r e xs)
+  pub event-within : Within 6848 (eventLines r e xs)
   unfolding eventLines
   event-within =
       both {m = 64} (one-line _ (line-length (numberAfter (r .number)) (playedOf r e xs .answer)) (omega arith))
-      (pick-by (Within 4736) (r .trace) (λ b. trace-within (playedOf r e xs .answer) (scratchOf r e xs) (playedOf r e xs .table) h g) (λ b. no-line))
+      (pick-by (Within 6784) (r .trace) (λ b. trace-within (playedOf r e xs .answer) (scratchOf r e xs) (playedOf r e xs .table) h g) (λ b. no-line))
 
   -- What an event adds to the octets to be written out: its lines, whole.
-  pub event-pending : (l : List ℕ) → r .out + 4800 ≤ length l → pending (eventOutput r e xs l) ≡ take (r .out) l ++ said (eventLines r e xs)
+  pub event-pending : (l : List ℕ) → r .out + 6848 ≤ length l → pending (eventOutput r e xs l) ≡ take (r .out) l ++ said (eventLines r e xs)
   unfolding eventOutput
   event-pending l k = let w = event-within in pending-all (eventLines r e xs) (upTo l (r .out)) (w .fits) (omega (arith, w .asks))

@@ -7,6 +7,7 @@ use lib.Dec.{ltb, eqb}
 use lib.ListN.{length, take}
 use Rattle.octets.specs.Pick.{pick}
 use Rattle.octets.specs.Field.{octets}
+use Rattle.octets.specs.Links.{noLinks}
 use Rattle.peer.specs.Query.{queryLeft, queryNumber}
 use Rattle.peer.specs.Record.{exchangeNumber, isFree}
 use Rattle.peer.specs.declared.record.Record.{Record}
@@ -55,6 +56,18 @@ queryTimes p = fieldOf 3 (queryNumber (p .query)) ++ tens 5 (queryLeft (p .query
 unfoldable pub queryLine : ℕ → Record → List ℕ
 queryLine place p = queryName place p ++ queryTimes p
 
+-- "  links ", the place, and each link behind a blank
+abbrev pub linksWord : List ℕ
+linksWord = 32 ∷ 32 ∷ 108 ∷ 105 ∷ 110 ∷ 107 ∷ 115 ∷ 32 ∷ []
+
+unfoldable pub linkText : ℕ → List ℕ
+linkText l = pick (eqb l 0) [] (32 ∷ hexOf (octets 6 l))
+
+unfoldable pub linksLine : ℕ → Record → List ℕ
+linksLine place p =
+    linksWord ++ tens 2 place ++ linkText (p .links .one) ++ linkText (p .links .two) ++ linkText (p .links .three)
+    ++ linkText (p .links .four) ++ (10 ∷ [])
+
 -- A line of n octets in hexadecimal is under 2 n + 64 octets long.
 abbrev pub octetsPut : List ℕ → Line
 octetsPut vs = record { room = 2 * length vs + 64; text = octetsLine vs }
@@ -76,9 +89,13 @@ hasQuery p = not (eqb (p .identifier) 0) || not (eqb (queryNumber (p .query)) 0)
 unfoldable pub queryLines : ℕ → Record → List Line
 queryLines i p = pick (hasQuery p) (short (queryLine i p) ∷ []) []
 
+-- "links": where there are any
+unfoldable pub linksLines : ℕ → Record → List Line
+linksLines i p = pick (noLinks (p .links)) [] (short (linksLine i p) ∷ [])
+
 -- "place": those that are not free, in rising order
 unfoldable pub placeLines : ℕ → Record → List Line
-placeLines i p = pick (isFree p) [] (short (placeLine i p) ∷ queryLines i p)
+placeLines i p = pick (isFree p) [] (short (placeLine i p) ∷ (linksLines i p ++ queryLines i p))
 
 unfoldable pub tableLines : ℕ → List Record → List Line
 tableLines i [] = []

@@ -10,7 +10,7 @@ ghost use mathlib.Core.Path.{_≡_};
 ghost use Prim.Native.Nat.{_+_};
 ghost use Rattle.octets.specs.Field.{field};
 ghost use lib.ListN.{length};
-ghost use Rattle.bench.specs.Input.{marked, lengthAllowed, eventAt, takenOf, bodyOf};
+ghost use Rattle.bench.specs.Input.{marked, lengthAllowed, miscounted, eventAt, takenOf, bodyOf};
 ghost use Rattle.bench.specs.Run.{leftOf, shiftedOf};
 
 // What stands at the front of the input.
@@ -21,7 +21,7 @@ pub enum Taken {
     Fault,
     // The settings, which stand first and only there.
     First(Settings),
-    // An event; a frame's octets are the record's body.
+    // An event; the octets of a frame, or of links, are the record's body.
     Next(Event),
 }
 
@@ -46,12 +46,23 @@ fn length_allowed(first: bool, kind: u8, size: u16) -> bool
             1 => size == 9,
             2 => size <= 4096,
             3 => size == 2,
+            4 => { if size < 7 { false } else { size <= 1537 } }
             _ => false,
         }
     }
 }
 
-// The event of a record: primitive, address, code; or a frame; or a clock step.
+// Whether a record is one of links, and its length not that of their count.
+fn is_miscounted(s: &[u8]) -> bool
+    ensures { λ r. ⌜ r ≡ miscounted (now (s .entry)) ⌝ }
+{
+    if octet_at(s, 2) != 4 {
+        return false;
+    }
+    u16_at(s, 3) != 7 + 6 * (octet_at(s, 11) as u16)
+}
+
+// The event of a record: primitive, address, code; or a frame; or a clock step; or a device's links.
 fn event_at(s: &[u8], kind: u8) -> Event
     ensures { λ r. ⌜ r ≡ eventAt (now (s .entry)) kind ⌝ }
 {
@@ -62,7 +73,8 @@ fn event_at(s: &[u8], kind: u8) -> Event
             code: u16_at(s, 12),
         },
         2 => Event::Frame,
-        _ => Event::Clock(u16_at(s, 5)),
+        3 => Event::Clock(u16_at(s, 5)),
+        _ => Event::Links,
     }
 }
 
@@ -85,7 +97,10 @@ pub fn take(s: &[u8], first: bool) -> Taken
         return Taken::Cut;
     }
     if first {
-        Taken::First(settings_in(body(s)))
+        return Taken::First(settings_in(body(s)));
+    }
+    if is_miscounted(s) {
+        Taken::Fault
     } else {
         Taken::Next(event_at(s, kind))
     }

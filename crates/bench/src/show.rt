@@ -1,5 +1,6 @@
 // What the trace shows of an event, behind its line in the output buffer.
 use crate::trace::write_current;
+use crate::trace::write_links;
 use crate::trace::write_octets;
 use crate::trace::write_place;
 use crate::trace::write_query;
@@ -9,7 +10,7 @@ use peer::turn::Told;
 use table::rules::answer::Answer;
 ghost use mathlib.Core.Path.{_≡_};
 ghost use Rattle.bench.specs.Output.{upTo, putAll};
-ghost use Rattle.bench.specs.Trace.{octetsLines, currentLines, hasQuery, placeLines, queryLines, tableLines, traceLines};
+ghost use Rattle.bench.specs.Trace.{octetsLines, currentLines, hasQuery, linksLines, placeLines, queryLines, tableLines, traceLines};
 
 // The octets that an event wrote.
 fn trace_octets(output: &mut [u8], out: usize, written: u16, scratch: [u8; 256]) -> usize
@@ -57,6 +58,18 @@ fn trace_query(output: &mut [u8], out: usize, place: u8, p: Record) -> usize
     }
 }
 
+// The links of a place, where there are any.
+fn trace_links(output: &mut [u8], out: usize, place: u8, p: Record) -> usize
+    ensures { λ r. ⌜ upTo (now (output .exit)) r ≡ putAll (linksLines place p) (upTo (now (output .entry)) out) ⌝ }
+{
+    let links = p.links;
+    if links.is_none() {
+        out
+    } else {
+        write_links(output, out, place, p)
+    }
+}
+
 // A place that is not free.
 fn trace_place(output: &mut [u8], out: usize, place: u8, p: Record) -> usize
     ensures { λ r. ⌜ upTo (now (output .exit)) r ≡ putAll (placeLines place p) (upTo (now (output .entry)) out) ⌝ }
@@ -65,7 +78,8 @@ fn trace_place(output: &mut [u8], out: usize, place: u8, p: Record) -> usize
         return out;
     }
     let next = write_place(&mut *output, out, place, p);
-    trace_query(output, next, place, p)
+    let after = trace_links(&mut *output, next, place, p);
+    trace_query(output, after, place, p)
 }
 
 // Every place, in rising order.

@@ -1,4 +1,4 @@
-// What the trace shows behind an event's line: the octets written, the current AP, and every place that is not free.
+// What the trace shows behind an event's line: the octets written, the current AP, and each place not free, its links and its query.
 use crate::text::has_room;
 use crate::text::put_field;
 use crate::text::put_hex;
@@ -15,7 +15,7 @@ ghost use Prim.Native.Nat.{_+_, _*_, _≤_};
 ghost use lib.ListN.{length};
 ghost use Rattle.octets.specs.Stored.{Stored};
 ghost use Rattle.bench.specs.Output.{short, upTo, putOf};
-ghost use Rattle.bench.specs.Trace.{octetsLine, octetsPut, currentLine, nameOf, timesOf, placeLine, queryName, queryTimes, queryLine};
+ghost use Rattle.bench.specs.Trace.{octetsLine, octetsPut, currentLine, nameOf, timesOf, placeLine, queryName, queryTimes, queryLine, linkText, linksLine};
 
 fn put_octets(out: &mut [u8], at: usize, octets: &[u8]) -> usize
     requires { ⌜ at + (2 * length (now octets) + 64) ≤ length (now out) ⌝ }
@@ -127,4 +127,41 @@ pub fn write_query(out: &mut [u8], at: usize, place: u8, p: Record) -> usize
     }
     let next = put_query_name(out, at, place, p);
     put_query_times(out, next, p)
+}
+
+// A link behind a blank; nothing where there is none.
+fn put_link(out: &mut [u8], at: usize, link: u64) -> usize
+    requires { ⌜ at + 13 ≤ length (now out) ⌝ }
+    ensures { λ r. ⌜ (r ≡ at + length (linkText link)) × (Stored (now (out .entry)) at (linkText link) (now (out .exit))) ⌝ }
+{
+    if link == 0 {
+        return at;
+    }
+    put_octet(out, at, b' ');
+    put_hex_address(out, at + 1, link)
+}
+
+fn put_links(out: &mut [u8], at: usize, place: u8, p: Record) -> usize
+    requires { ⌜ at + 64 ≤ length (now out) ⌝ }
+    ensures { λ r. ⌜ (r ≡ at + length (linksLine place p)) × (Stored (now (out .entry)) at (linksLine place p) (now (out .exit))) ⌝ }
+{
+    let links = p.links;
+    let p1 = put_word(out, at, b"  links ");
+    let p2 = put_tens(out, p1, place as u64, 2);
+    let p3 = put_link(out, p2, links.one);
+    let p4 = put_link(out, p3, links.two);
+    let p5 = put_link(out, p4, links.three);
+    let p6 = put_link(out, p5, links.four);
+    put_octet(out, p6, b'\n');
+    p6 + 1
+}
+
+// The same of the line of a device's links.
+pub fn write_links(out: &mut [u8], at: usize, place: u8, p: Record) -> usize
+    ensures { λ r. ⌜ upTo (now (out .exit)) r ≡ putOf (short (linksLine place p)) (upTo (now (out .entry)) at) ⌝ }
+{
+    if has_room(out.len(), at, 64) {} else {
+        return at;
+    }
+    put_links(out, at, place, p)
 }

@@ -1,6 +1,6 @@
 -- Laws of little-endian numbers: a field is its first octets and then the rest, and a number's octets give it back.
 -- Assumes nothing.
-use mathlib.Core.Path.{_≡_, refl, ap}
+use mathlib.Core.Path.{_≡_, refl, ap, _∙_}
 use mathlib.Core.List.{List, [], _∷_, _++_}
 use Prim.Native.Nat.{ℕ, zero, suc, _+_, _*_, _^_, _/_, _<_, _≤_}
 use native.Mathlib.Nat.{pow-suc, div-lt-iff-lt-mul, mul-comm, mul-assoc, mul-add, mul-zero}
@@ -47,6 +47,10 @@ le-split n m k xs = by-bool (leb (k + n) (length xs)) (λ e. whole (leb-true (k 
     short : length xs < k + n → field (n + m) k xs ≡ field n k xs + 256 ^ n * field m (k + n) xs
     short h =
         rw (take-add, le-append, drop-drop, ← le-none m xs (k + n) (omega arith), mul-zero (256 ^ length (take n (drop k xs))), mul-zero (256 ^ n))
+
+-- The same where the place of the second is written otherwise.
+pub at-place : (n m i j : ℕ) (xs : List ℕ) → i + n ≡ j → field (n + m) i xs ≡ field n i xs + 256 ^ n * field m j xs
+at-place n m i j xs q = le-split n m i xs ∙ rw q
 
 pub length-octets : (n v : ℕ) → length (octets n v) ≡ n
 unfolding octets

@@ -9,5 +9,7 @@ pub mod Elements
 pub mod Stores
 pub mod Lengths
 pub mod RoundTrip
+pub mod LinkTrip
 pub mod RowTrip
+pub mod RowHead
 pub mod AnswerTrip

@@ -1,3 +1,4 @@
+pub mod Links
 pub mod Pick
 pub mod Address
 pub mod Field

@@ -6,6 +6,7 @@ pub mod element;
 pub mod field;
 pub mod frame;
 pub mod heard;
+pub mod links;
 mod put;
 pub mod report;
 pub mod row;

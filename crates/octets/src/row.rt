@@ -1,4 +1,6 @@
-// A record of a peer as it crosses to a host: numbers only, in 24 octets.
+// A record of a peer as it crosses to a host: numbers only, in 48 octets.
+use crate::links::Links;
+use crate::put::put_address;
 use crate::put::put_octet;
 use crate::put::put_u16;
 use crate::put::put_u32;
@@ -6,10 +8,11 @@ use crate::put::put_u64;
 ghost use mathlib.Core.Path.{_≡_};
 ghost use Prim.Native.Nat.{_+_, _≤_};
 ghost use lib.Dec.{leb};
-ghost use lib.ListN.{length};
+ghost use lib.ListN.{getD, length};
 ghost use Rattle.octets.specs.Field.{field};
 ghost use Rattle.octets.specs.Stored.{Stored};
-ghost use Rattle.octets.specs.Row.{blankAt, queryOctets, rowAt, rowIn};
+ghost use Rattle.octets.specs.Links.{linkOctets, linksAt, linksOf};
+ghost use Rattle.octets.specs.Row.{blankAt, emptyAt, headIn, headOctets, linklessAt, queryOctets, rowAt, rowIn};
 
 pub struct Row {
     pub address: u64,
@@ -20,11 +23,12 @@ pub struct Row {
     pub identifier: u16,
     pub remaining: u16,
     pub query: u32,
+    pub links: Links,
 }
 
 impl Row {
     // How many octets a row has.
-    pub const OCTETS: usize = 24;
+    pub const OCTETS: usize = 48;
 }
 
 fn half(s: &[u8], at: usize) -> u16
@@ -48,9 +52,42 @@ fn long(s: &[u8], at: usize) -> u64
     word(s, at) as u64 + 4294967296 * (word(s, at + 4) as u64)
 }
 
+fn six(s: &[u8], at: usize) -> u64
+    requires { ⌜ at + 6 ≤ length (now s) ⌝ }
+    ensures { λ r. ⌜ r ≡ field 6 at (now (s .entry)) ⌝ }
+{
+    word(s, at) as u64 + 4294967296 * (half(s, at + 4) as u64)
+}
+
+fn links_at(s: &[u8], at: usize) -> Links
+    requires { ⌜ at + 24 ≤ length (now s) ⌝ }
+    ensures { λ r. ⌜ r ≡ linksAt at (now (s .entry)) ⌝ }
+{
+    Links {
+        one: six(s, at),
+        two: six(s, at + 6),
+        three: six(s, at + 12),
+        four: six(s, at + 18),
+    }
+}
+
+// Whether 24 octets are all zero. Each number is tested as it is read: read all at first, they cost more.
+fn empty_at(s: &[u8], at: usize) -> bool
+    requires { ⌜ at + 24 ≤ length (now s) ⌝ }
+    ensures { λ r. ⌜ r ≡ emptyAt at (now (s .entry)) ⌝ }
+{
+    if long(s, at) != 0 {
+        return false;
+    }
+    if long(s, at + 8) != 0 {
+        return false;
+    }
+    long(s, at + 16) == 0
+}
+
 // Whether there is room for a row at a place.
 fn has_row(lent: usize, at: usize) -> bool
-    ensures { λ r. ⌜ r ≡ leb (at + 24) lent ⌝ }
+    ensures { λ r. ⌜ r ≡ leb (at + 48) lent ⌝ }
 {
     if lent < Row::OCTETS {
         return false;
@@ -72,6 +109,7 @@ pub fn row_at(s: &[u8], at: usize) -> Row
             identifier: 0,
             remaining: 0,
             query: 0,
+            links: Links::none(),
         };
     }
     Row {
@@ -83,6 +121,7 @@ pub fn row_at(s: &[u8], at: usize) -> Row
         identifier: half(s, at + 16),
         remaining: half(s, at + 18),
         query: word(s, at + 20),
+        links: links_at(s, at + 24),
     }
 }
 
@@ -93,20 +132,43 @@ pub fn address_in(s: &[u8], at: usize) -> u64
     if has_row(s.len(), at) { long(s, at) } else { 0 }
 }
 
-// Whether the 24 octets at a place are there and all zero: three numbers to look at, where a row has eight.
+// The link in a slot of the row at a place; 0 where the octets end before it does, or there is no such slot.
+pub fn link_in(s: &[u8], at: usize, j: usize) -> u64
+    ensures { λ r. ⌜ r ≡ getD (linksOf (rowAt at (now (s .entry)) .links)) j 0 ⌝ }
+{
+    if has_row(s.len(), at) {} else {
+        return 0;
+    }
+    if j < Links::SLOTS {
+        six(s, at + 24 + 6 * j)
+    } else {
+        0
+    }
+}
+
+// Whether the 48 octets at a place are there and all zero.
 pub fn blank_at(s: &[u8], at: usize) -> bool
     ensures { λ r. ⌜ r ≡ blankAt at (now (s .entry)) ⌝ }
 {
     if has_row(s.len(), at) {} else {
         return false;
     }
-    if long(s, at) != 0 {
-        return false;
+    if empty_at(s, at) {
+        empty_at(s, at + 24)
+    } else {
+        false
     }
-    if long(s, at + 8) != 0 {
-        return false;
+}
+
+// Whether the 48 octets at a place are there, and have no link.
+pub fn linkless_at(s: &[u8], at: usize) -> bool
+    ensures { λ r. ⌜ r ≡ linklessAt at (now (s .entry)) ⌝ }
+{
+    if has_row(s.len(), at) {
+        empty_at(s, at + 24)
+    } else {
+        false
     }
-    long(s, at + 16) == 0
 }
 
 // Stores what a row has of a query.
@@ -119,6 +181,39 @@ fn put_query(out: &mut [u8], at: usize, row: Row)
     put_u32(out, at + 4, row.query);
 }
 
+fn put_links(out: &mut [u8], at: usize, links: Links)
+    requires { ⌜ at + 24 ≤ length (now out) ⌝ }
+    ensures { λ _. ⌜ Stored (now (out .entry)) at (linkOctets links) (now (out .exit)) ⌝ }
+{
+    put_address(&mut *out, at, links.one);
+    put_address(&mut *out, at + 6, links.two);
+    put_address(&mut *out, at + 12, links.three);
+    put_address(out, at + 18, links.four);
+}
+
+// Stores what a row has before its links.
+fn put_fields(out: &mut [u8], at: usize, row: Row)
+    requires { ⌜ at + 24 ≤ length (now out) ⌝ }
+    ensures { λ _. ⌜ Stored (now (out .entry)) at (headOctets row) (now (out .exit)) ⌝ }
+{
+    put_u64(&mut *out, at, row.address);
+    put_u32(&mut *out, at + 8, row.hold);
+    put_u16(&mut *out, at + 12, row.left);
+    put_octet(&mut *out, at + 14, row.state);
+    put_octet(&mut *out, at + 15, row.exchange);
+    put_query(out, at + 16, row);
+}
+
+// Stores a row at a place but for its links, where there is room for the row.
+pub fn put_head(out: &mut [u8], at: usize, row: Row)
+    ensures { λ _. ⌜ now (out .exit) ≡ headIn at row (now (out .entry)) ⌝ }
+{
+    if has_row(out.len(), at) {} else {
+        return;
+    }
+    put_fields(out, at, row);
+}
+
 // Stores a row at a place, where there is room for it.
 pub fn put_row(out: &mut [u8], at: usize, row: Row)
     ensures { λ _. ⌜ now (out .exit) ≡ rowIn at row (now (out .entry)) ⌝ }
@@ -126,10 +221,7 @@ pub fn put_row(out: &mut [u8], at: usize, row: Row)
     if has_row(out.len(), at) {} else {
         return;
     }
-    put_u64(&mut *out, at, row.address);
-    put_u32(&mut *out, at + 8, row.hold);
-    put_u16(&mut *out, at + 12, row.left);
-    put_octet(&mut *out, at + 14, row.state);
-    put_octet(&mut *out, at + 15, row.exchange);
-    put_query(out, at + 16, row);
+    put_fields(&mut *out, at, row);
+    let links = row.links;
+    put_links(out, at + 24, links);
 }

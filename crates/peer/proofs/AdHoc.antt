@@ -16,6 +16,7 @@ use Rattle.octets.proofs.Branch.{and-left, by-bool}
 use Rattle.octets.specs.Address.{validOf}
 use Rattle.octets.specs.Class.{classIn}
 use Rattle.octets.specs.Heard.{heardOf}
+use Rattle.octets.specs.Links.{noLinks, unlinked}
 use Rattle.octets.specs.declared.class.FrameClass.the-variants as class
 use Rattle.octets.specs.declared.class.FrameClass.{FrameClass}
 use Rattle.octets.specs.declared.heard.Heard.the-variants as heard
@@ -24,7 +25,7 @@ use Rattle.octets.specs.declared.heard.Kind.the-variants.{Association, Authenti
 use Rattle.peer.specs.Ask.{answerOf, askOf, startedOf}
 use Rattle.peer.specs.Authentication.{answeredMove, authenticationAnswered, authenticationAsked, authenticationHeard, requestedOf}
 use Rattle.peer.specs.Filter.{barredOf, passesOf}
-use Rattle.peer.specs.Fit.{askedFits, highestState, holdFits, placeFits, queryAllowed, recordFits, sentFits, stands}
+use Rattle.peer.specs.Fit.{askedFits, highestState, holdFits, linksFit, placeFits, queryAllowed, recordFits, sentFits, stands}
 use Rattle.peer.specs.Hear.{hearOf}
 use Rattle.peer.specs.Query.{queryIn}
 use Rattle.peer.specs.Record.{changedOf, freshOf, isFree}
@@ -131,7 +132,7 @@ abbrev direct : Settings
 direct = record { own = 2; network = 8; authentication = 100; association = 100; role = 3; rsna = 0; edition = 1; protection = 0; retry = 201; maximum = 1000 }
 
 abbrev other : ℕ → Exchange → ℕ → Record
-other state e left = record { address = 4; state = state; exchange = e; left = left; hold = 0; query = query.None; identifier = 0 }
+other state e left = record { address = 4; state = state; exchange = e; left = left; hold = 0; query = query.None; identifier = 0; links = unlinked }
 
 abbrev nobody : Others
 nobody = record { associated = 0; busy = false }
@@ -141,7 +142,7 @@ all-fit :
     (settingsFit direct && (recordFits direct (other 1 (Sent Authentication) 100) && (recordFits direct (other 2 (Asked Authentication) 0)
     && (not (recordFits direct (other 3 None 0)) && not (recordFits direct (other 2 (Sent Association) 100))))))
     ≡ true
-unfolding settingsFit queryTimesFit timeFits networkFits validOf recordFits highestState roleAsks roleAnswers roleAssociates holdFits sentFits askedFits stands queryAllowed
+unfolding settingsFit queryTimesFit timeFits networkFits validOf recordFits highestState roleAsks roleAnswers roleAssociates holdFits sentFits askedFits stands queryAllowed linksFit noLinks
 all-fit = refl
 
 -- primitive 1 to a stranger
@@ -163,7 +164,7 @@ both-ask = refl
 
 -- and no primitive leads on from there
 no-further : (q code : ℕ) → roleAllowed q adHoc ≡ true → askOf direct 0 (other 2 None 0) nobody q code .peer .state < 3
-unfolding roleAssociates recordFits highestState roleAsks validOf holdFits queryAllowed
+unfolding roleAssociates recordFits highestState roleAsks validOf holdFits queryAllowed linksFit noLinks
 no-further q code allowed = low-asked direct refl (other 2 None 0) (fits-of direct (other 2 None 0) refl) 0 nobody q code allowed
 
 -- a PS-Poll, of class 3, is not answered in State 2

@@ -12,6 +12,7 @@ use Rattle.octets.proofs.Branch.{by-bool, pick-both}
 use Rattle.octets.specs.Address.{validOf}
 use Rattle.octets.specs.Field.{octets}
 use Rattle.octets.specs.Frame.{bodyOf, bytesOf, capabilityOf, headOf}
+use Rattle.octets.specs.Links.{unlinked}
 use Rattle.octets.specs.Pick.{pick}
 use Rattle.octets.specs.Read.{BodyFits, Says, association-request, association-response, authentication, deauthentication, disassociation, query-request, reassociation-request, reassociation-response}
 use Rattle.octets.specs.declared.element.Comeback.the-variants.{Absent}
@@ -79,7 +80,7 @@ abbrev roaming : Settings
 roaming = record { role = 2; own = 0x0a; network = 0; rsna = 1; authentication = 10; association = 10; edition = 1; protection = 0; retry = 201; maximum = 1000 }
 
 abbrev nearer : Record
-nearer = record { address = 0x0e; state = 2; exchange = None; left = 0; hold = 0; query = query.None; identifier = 0 }
+nearer = record { address = 0x0e; state = 2; exchange = None; left = 0; hold = 0; query = query.None; identifier = 0; links = unlinked }
 
 roamed :
     ReadsTo roaming 0x0e (heard.Request Reassociation 0x0c)

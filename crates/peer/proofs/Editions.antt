@@ -13,6 +13,7 @@ use lib.Dec.{eqb, leb, ltb}
 use borrow.Author.Tests.{eqb-false, eqb-true, le-ltb, leb-true, ne-eqb, not-true}
 use Rattle.octets.proofs.Branch.{by-bool, pick-both, pick-by}
 use Rattle.octets.specs.Address.{validOf}
+use Rattle.octets.specs.Links.{noLinks, unlinked}
 use Rattle.octets.specs.Pick.{pick}
 use Rattle.octets.specs.declared.element.Comeback.the-variants.{Absent}
 use Rattle.octets.specs.declared.element.Comeback.{Comeback}
@@ -20,7 +21,7 @@ use Rattle.octets.specs.declared.heard.Kind.the-variants.{Association, Reassoci
 use Rattle.octets.specs.declared.heard.Kind.{Kind}
 use Rattle.peer.specs.Ask.{askOf, declinedMove, declinedOf, respondOf}
 use Rattle.peer.specs.Association.{rejectedOf, responseHeard}
-use Rattle.peer.specs.Fit.{askedFits, highestState, holdFits, queryAllowed, recordFits, stands}
+use Rattle.peer.specs.Fit.{askedFits, highestState, holdFits, linksFit, queryAllowed, recordFits, stands}
 use Rattle.peer.specs.Moves.{dsLeft, dsNone, dsOf, movedOf}
 use Rattle.peer.specs.Record.{changedOf, isJoined, isSent}
 use Rattle.peer.specs.Refuse.{codeAllowed, mismatchOf, one, roleAllowed}
@@ -124,7 +125,7 @@ site edition protection =
     record { own = 2; network = 0; authentication = 100; association = 100; role = 1; rsna = 0; edition = edition; protection = protection; retry = 201; maximum = 1000 }
 
 abbrev asking : ℕ → Record
-asking state = record { address = 4; state = state; exchange = Asked Reassociation; left = 0; hold = 0; query = query.None; identifier = 0 }
+asking state = record { address = 4; state = state; exchange = Asked Reassociation; left = 0; hold = 0; query = query.None; identifier = 0; links = unlinked }
 
 abbrev nobody : Others
 nobody = record { associated = 0; busy = false }
@@ -135,7 +136,7 @@ taken s p = settingsFit s && (recordFits s p && (codeAllowed 8 1 && (roleAllowed
 
 all-taken :
     (taken (site 1 1) (asking 4) && (taken (site 2 0) (asking 4) && (taken (site 2 0) (asking 3) && taken (site 2 1) (asking 4)))) ≡ true
-unfolding taken settingsFit queryTimesFit timeFits networkFits validOf recordFits highestState queryAllowed holdFits askedFits stands roleAnswers roleAsks roleAssociates codeAllowed roleAllowed mismatchOf
+unfolding taken settingsFit queryTimesFit timeFits networkFits validOf recordFits highestState queryAllowed holdFits askedFits stands roleAnswers roleAsks roleAssociates codeAllowed roleAllowed mismatchOf linksFit noLinks
 all-taken = refl
 
 four-to-two : askOf (site 1 1) 1 (asking 4) nobody 8 1 .peer .state ≡ 2
@@ -159,6 +160,6 @@ four-silent = second-silent (site 2 0) 1 (asking 4) nobody 8 1 refl refl
 -- .. and a station in State 4 that has asked for association again hears status 1.
 heard-two :
     responseHeard (record { own = 2; network = 0; authentication = 100; association = 100; role = 2; rsna = 0; edition = 2; protection = 1; retry = 201; maximum = 1000 })
-    (record { address = 4; state = 4; exchange = Sent Association; left = 9; hold = 0; query = query.None; identifier = 0 }) Association 1 0 Absent .peer .state
+    (record { address = 4; state = 4; exchange = Sent Association; left = 9; hold = 0; query = query.None; identifier = 0; links = unlinked }) Association 1 0 Absent .peer .state
     ≡ 2
 heard-two = heard-rejection _ _ Association 1 0 Absent refl (λ (z : 1 ≡ 0). omega arith)

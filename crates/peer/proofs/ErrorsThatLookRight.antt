@@ -11,6 +11,7 @@ use lib.Dec.{eqb, leb, ltb}
 use borrow.Author.Tests.{eqb-true, leb-true, ltb-false, ne-eqb, not-false}
 use Rattle.octets.proofs.Branch.{and-right, by-bool, pick-both, pick-by}
 use Rattle.octets.specs.Address.{validOf}
+use Rattle.octets.specs.Links.{noLinks, unlinked}
 use Rattle.octets.specs.declared.class.FrameClass.{FrameClass}
 use Rattle.octets.specs.declared.class.FrameClass.the-variants.{One}
 use Rattle.octets.specs.declared.heard.Heard.the-variants as heard
@@ -18,10 +19,9 @@ use Rattle.octets.specs.declared.heard.Heard.{Heard}
 use Rattle.octets.specs.declared.heard.Kind.the-variants as kind
 use Rattle.octets.specs.declared.heard.Kind.{Kind}
 use Rattle.peer.specs.Ask.{answerOf, askOf, associateOf, awaitedOf, deauthenticateOf, declinedOf, disassociateOf, failedOf, reassociateOf, reportOf, reportedMove, respondOf, secureOf, startedOf}
-use Rattle.peer.specs.Association.{acceptedOf, rejectedOf, responseHeard}
+use Rattle.peer.specs.Association.{responseHeard}
 use Rattle.peer.specs.Authentication.{answeredMove, requestedOf}
 use Rattle.peer.specs.Challenge.{challengedOf, inquiredOf, passedOf, queryRequestHeard, queryResponseHeard, queryingOf}
-use Rattle.peer.specs.Codes.{lastAid}
 use Rattle.peer.specs.Farewell.{deauthenticationHeard, disassociationHeard}
 use Rattle.peer.specs.Filter.{passesOf}
 use Rattle.peer.specs.Hear.{actOf, groupHeard, hearOf, isExchange, isQuery}
@@ -30,14 +30,15 @@ use Rattle.peer.specs.Query.{isRunning}
 use Rattle.peer.specs.Record.{askedOf, awaitingOf, changedOf, isFree, isSent, queriedOf}
 use Rattle.peer.specs.Refuse.{codeAllowed, mismatchOf}
 use Rattle.peer.specs.Settings.{ap, roleAnswers, roleAsks, roleAssociates, station}
-use Rattle.peer.specs.Turn.{begunOf, endedOf, repliedOf, soleOf, stillOf, turnOf}
+use Rattle.peer.specs.Turn.{begunOf, endedOf, repliedOf, stillOf, turnOf}
 use Rattle.peer.specs.declared.query.Query.the-variants as query
 use Rattle.peer.specs.declared.record.Exchange.the-variants.{Awaiting, None}
 use Rattle.peer.specs.declared.record.Record.{Record}
 use Rattle.peer.specs.declared.refuse.Others.{Others}
 use Rattle.peer.specs.declared.settings.Settings.{Settings}
 use Rattle.peer.specs.declared.turn.Turn.{Turn}
-use Rattle.peer.specs.Fit.{askedFits, awaitingFits, highestState, holdFits, queryAllowed, recordFits, stands}
+use Rattle.peer.specs.Fit.{askedFits, awaitingFits, highestState, holdFits, linksFit, queryAllowed, recordFits, stands}
+use Rattle.peer.proofs.Links.{act-links, ask-links, hear-links}
 use Rattle.peer.proofs.Fits.{Fits, asked-stands, fits-of, sent-asks, wrong}
 use Rattle.peer.proofs.Keeps.{declined-no-higher}
 use Rattle.peer.proofs.Roles.{authentication-by, request-by}
@@ -173,46 +174,20 @@ abbrev pub Kept : Record → Turn → Type 0
 Kept p t = t .peer .address ≡ p .address
 
 module _ (s : Settings) (p : Record) where
-  act-kept : (h : Heard) → Kept p (actOf s p h)
-  unfolding stillOf repliedOf turnOf soleOf begunOf endedOf changedOf requestedOf deauthenticationHeard disassociationHeard responseHeard acceptedOf rejectedOf queryRequestHeard queryResponseHeard challengedOf queryingOf passedOf queriedOf
-  act-kept heard.Other = refl
-  act-kept (heard.Authentication algorithm transaction status) =
-      authentication-by s p (Kept p) algorithm transaction status (λ a z. refl) (λ z. refl) (λ e. refl) refl
-  act-kept (heard.Deauthentication reason) = pick-both (Kept p) (ltb (p .state) 2) refl refl
-  act-kept (heard.Disassociation reason) = pick-both (Kept p) (ltb (p .state) 3) refl refl
-  act-kept (heard.Request k current) = request-by s p (Kept p) k current (λ a c. refl) (λ a. refl) refl
-  act-kept (heard.QueryRequest i) = pick-both (Kept p) (eqb (p .state) 4) refl refl
-  act-kept (heard.QueryResponse i) = pick-both (Kept p) (eqb (p .state) 4 && (isRunning (p .query) && eqb i (p .identifier))) refl refl
-  act-kept (heard.Response k status aid c) =
-      pick-both (Kept p) (isSent k (p .exchange))
-      (pick-both (Kept p) (eqb status 0) (pick-both (Kept p) (eqb aid 0 || ltb lastAid aid) refl refl) refl)
-      refl
-
   -- No frame takes a record its address,
   pub hear-kept : (k : FrameClass) (group : Bool) (h : Heard) → Kept p (hearOf s p k group h)
-  unfolding hearOf groupHeard stillOf repliedOf turnOf
-  hear-kept k group h =
-      pick-both (Kept p) (not (passesOf (s .role) k (p .state))) refl
-      (pick-both (Kept p) group (pick-both (Kept p) (isExchange h) refl (pick-both (Kept p) (isQuery h) refl (act-kept h))) (act-kept h))
+  hear-kept k group h = hear-links s p k group h .0
 
   -- and no primitive does.
   pub ask-kept : (aid : ℕ) (o : Others) (q code : ℕ) → Kept p (askOf s aid p o q code)
-  unfolding askOf startedOf answerOf deauthenticateOf associateOf reassociateOf failedOf disassociateOf respondOf awaitedOf declinedOf secureOf reportOf inquiredOf queriedOf turnOf begunOf endedOf changedOf
-  ask-kept aid o q code =
-      pick-both (Kept p) (eqb q 1) refl (pick-both (Kept p) (eqb q 2) refl (pick-both (Kept p) (eqb q 3) refl
-      (pick-both (Kept p) (eqb q 4) (pick-both (Kept p) (eqb (p .state) 1) refl refl)
-      (pick-both (Kept p) (eqb q 5) (pick-both (Kept p) (eqb (o .associated) 0 || eqb (p .state) 1) refl refl)
-      (pick-both (Kept p) (eqb q 6) (pick-both (Kept p) (ltb (p .state) 3) refl refl)
-      (pick-both (Kept p) (eqb q 7) (pick-both (Kept p) (eqb code 0) refl refl)
-      (pick-both (Kept p) (eqb q 8) (pick-both (Kept p) (eqb code 0) refl refl)
-      (pick-both (Kept p) (eqb q 9) refl (pick-both (Kept p) (eqb q 10) refl refl)))))))))
+  ask-kept aid o q code = ask-links s p aid o q code .0
 
   -- So a deauthentication, heard or asked, leaves a record where it was, and no free place.
   pub not-freed :
       Fits s p → (reason : ℕ) → (isFree (deauthenticationHeard s p reason .peer) ≡ false) × (isFree (deauthenticateOf s p reason .peer) ≡ false)
   unfolding isFree validOf askOf
   not-freed f reason =
-      (occupied (deauthenticationHeard s p reason .peer) (act-kept (heard.Deauthentication reason)), occupied (deauthenticateOf s p reason .peer) (ask-kept 0 nobody 3 reason))
+      (occupied (deauthenticationHeard s p reason .peer) (act-links s p (heard.Deauthentication reason) .0), occupied (deauthenticateOf s p reason .peer) (ask-kept 0 nobody 3 reason))
     where
       occupied : (q : Record) → q .address ≡ p .address → isFree q ≡ false
       occupied q e = rw e (by-bool (eqb (p .address) 0) (λ z. wrong (rw z at (f .valid))) (λ z. rw z))
@@ -224,10 +199,10 @@ ours : ℕ → Settings
 ours role = record { own = 2; network = 0; authentication = 100; association = 100; role = role; rsna = 0; edition = 1; protection = 0; retry = 201; maximum = 1000 }
 
 peer : ℕ → Record
-peer state = record { address = 4; state = state; exchange = None; left = 0; hold = 0; query = query.None; identifier = 0 }
+peer state = record { address = 4; state = state; exchange = None; left = 0; hold = 0; query = query.None; identifier = 0; links = unlinked }
 
 awaiting : Record
-awaiting = record { address = 4; state = 2; exchange = Awaiting kind.Association; left = 0; hold = 0; query = query.None; identifier = 0 }
+awaiting = record { address = 4; state = 2; exchange = Awaiting kind.Association; left = 0; hold = 0; query = query.None; identifier = 0; links = unlinked }
 
 four-at-ap : askOf (ours ap) 1 (hearOf (ours ap) (peer 4) One false (heard.Authentication 0 1 0) .peer) nobody 2 0 .peer .state ≡ 4
 unfolding ours peer
@@ -238,7 +213,7 @@ unfolding ours peer
 four-at-station = repeated-asked (ours station) (peer 4) (omega arith) One false 0 2 0 1 nobody
 
 awaiting-fits : Fits (ours ap) awaiting
-unfolding ours awaiting recordFits highestState queryAllowed holdFits awaitingFits askedFits stands roleAnswers roleAsks roleAssociates validOf
+unfolding ours awaiting recordFits highestState queryAllowed holdFits awaitingFits askedFits stands roleAnswers roleAsks roleAssociates validOf linksFit noLinks
 awaiting-fits = fits-of (ours ap) awaiting refl
 
 raised : Raises awaiting 10 1

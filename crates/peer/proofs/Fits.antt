@@ -9,7 +9,7 @@ use borrow.Author.Tests.{le-leb, leb-true, eqb-true}
 use Rattle.octets.specs.Address.{validOf}
 use Rattle.octets.specs.declared.heard.Kind.the-variants.{Association, Authentication, Reassociation}
 use Rattle.octets.specs.declared.heard.Kind.{Kind}
-use Rattle.peer.specs.Fit.{stands, askedFits, awaitingFits, sentFits, exchangeFits, highestState, holdFits, queryAllowed, queryFits, recordFits, placeFits}
+use Rattle.peer.specs.Fit.{stands, askedFits, awaitingFits, sentFits, exchangeFits, highestState, holdFits, linksFit, queryAllowed, queryFits, recordFits, placeFits}
 use Rattle.peer.specs.Record.{associates, changedOf, isAssociating, isFree, isJoined, isSent, queriedOf, underWay, askedOf}
 use Rattle.peer.specs.Settings.{roleAnswers, roleAsks, roleAssociates, timeFits}
 use Rattle.peer.specs.declared.query.Query.{Query}
@@ -51,6 +51,7 @@ pub record Fits (s : Settings) (p : Record) : Type 0 where
   pub suits : exchangeFits (p .exchange) (s .role) (p .state) (p .left) ≡ true
   pub numbered : p .identifier ≤ 65535
   pub queries : queryFits s (p .state) (p .query) ≡ true
+  pub linked : linksFit s p ≡ true
 
 pub fits-of : (s : Settings) (p : Record) → recordFits s p ≡ true → Fits s p
 unfolding recordFits queryAllowed
@@ -61,7 +62,8 @@ fits-of s p h =
     let d = both (validOf (p .address)) _ (c .1) in
     let e = both (holdFits (s .role) (p .hold)) _ (d .1) in
     let g = both (exchangeFits (p .exchange) (s .role) (p .state) (p .left)) _ (e .1) in
-    let i = both (leb (p .identifier) 65535) _ (g .1) in
+    let j = both (queryAllowed s p) _ (g .1) in
+    let i = both (leb (p .identifier) 65535) _ (j .0) in
     record {
       low = leb-true 1 (p .state) (a .0);
       high = leb-true (p .state) (highestState (s .role)) (b .0);
@@ -71,13 +73,14 @@ fits-of s p h =
       suits = g .0;
       numbered = leb-true (p .identifier) 65535 (i .0);
       queries = i .1;
+      linked = j .1;
     }
 
 pub of-fits : (s : Settings) (p : Record) → Fits s p → recordFits s p ≡ true
 unfolding recordFits queryAllowed
 of-fits s p f =
-    rw (le-leb 1 (p .state) (f .low), le-leb (p .state) (highestState (s .role)) (f .high), f .apart, f .valid, f .held, f .suits, le-leb (p .identifier) 65535 (f .numbered))
-    (f .queries)
+    rw (le-leb 1 (p .state) (f .low), le-leb (p .state) (highestState (s .role)) (f .high), f .apart, f .valid, f .held, f .suits, le-leb (p .identifier) 65535 (f .numbered), f .queries)
+    (f .linked)
 
 -- The record q comes of p: it fits, and has the same address; and at a station it is in State 3 or 4, or has a (re)association under way,
 -- only where p was so, or where any other record leaves State 3 or 4 with it (sole), or where no record had one (not busy).
@@ -187,7 +190,7 @@ module _ (s : Settings) (busy : Bool) (p : Record) (f : Fits s p) where
       → (roleAnswers (s .role) ≡ false → sole ≡ false → leb 3 state ≡ true → leb 3 (p .state) ≡ true)
       → (roleAnswers (s .role) ≡ false → busy ≡ true → leb 2 (underWay e) ≡ true → leb 2 (underWay (p .exchange)) ≡ true)
       → Keeps s busy p (changedOf p state e left hold) sole
-  unfolding changedOf isJoined associates
+  unfolding changedOf isJoined associates linksFit
   keeps-changed state e left hold sole low high held suits joins starts =
       record {
         fits =
@@ -200,6 +203,7 @@ module _ (s : Settings) (busy : Bool) (p : Record) (f : Fits s p) where
               suits = suits;
               numbered = f .numbered;
               queries = in-fits s (p .state) (p .query) state (f .queries);
+              linked = f .linked;
             };
         same = refl;
         joins = joins;
@@ -208,7 +212,7 @@ module _ (s : Settings) (busy : Bool) (p : Record) (f : Fits s p) where
 
   pub keeps-queried :
       (q : Query) (identifier : ℕ) → identifier ≤ 65535 → queryFits s (p .state) q ≡ true → Keeps s busy p (queriedOf p q identifier) false
-  unfolding queriedOf isJoined associates
+  unfolding queriedOf isJoined associates linksFit
   keeps-queried q identifier short suits =
       record {
         fits =
@@ -221,6 +225,7 @@ module _ (s : Settings) (busy : Bool) (p : Record) (f : Fits s p) where
               suits = f .suits;
               numbered = short;
               queries = suits;
+              linked = f .linked;
             };
         same = refl;
         joins = λ a b j. j;

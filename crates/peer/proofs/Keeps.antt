@@ -9,12 +9,13 @@ use lib.Dec.{eqb, leb, ltb}
 use borrow.Author.Tests.{le-leb, lt-leb, eqb-true, ltb-false, ltb-true}
 use Rattle.octets.proofs.Branch.{by-bool, pick-both, pick-by}
 use Rattle.octets.specs.Address.{validOf}
+use Rattle.octets.specs.Links.{noLinks}
 use Rattle.octets.specs.declared.heard.Kind.the-variants.{Association, Authentication, Reassociation}
 use Rattle.octets.specs.declared.heard.Kind.{Kind}
 use Rattle.peer.specs.Ask.{declinedMove}
 use Rattle.peer.specs.Association.{partedOf}
 use Rattle.peer.specs.Authentication.{answeredMove}
-use Rattle.peer.specs.Fit.{exchangeFits, holdFits, placeFits, queryFits, recordFits, stands}
+use Rattle.peer.specs.Fit.{exchangeFits, holdFits, linksFit, placeFits, queryFits, recordFits, stands}
 use Rattle.peer.specs.Moves.{movedOf}
 use Rattle.peer.specs.Query.{queryLeft}
 use Rattle.peer.specs.Record.{associates, changedOf, freshOf, isFree, isJoined, queriedOf, underWay}
@@ -114,7 +115,7 @@ found-fits s p h v = by-bool (eqb (p .address) 0)
 
 -- "a fresh record has one fixed form"
 pub fresh-fits : (s : Settings) (a : ℕ) → not (eqb a (s .own)) ≡ true → validOf a ≡ true → Fits s (freshOf a)
-unfolding freshOf holdFits
+unfolding freshOf holdFits linksFit noLinks
 fresh-fits s a e v =
     record {
       low = omega arith;
@@ -125,6 +126,7 @@ fresh-fits s a e v =
       suits = refl;
       numbered = omega arith;
       queries = refl;
+      linked = refl;
     }
 
 -- what is left of its query has two octets
@@ -154,7 +156,7 @@ parted-keeps s p h = by-bool (ltb (p .state) 3) (λ e. rw e h) high
         (suits-still (p .exchange) (s .role) (p .state) (p .left) 2 (p .left) (f .suits) refl (omega arith) (le-leb 2 (p .state) (omega arith)))
         (λ a b j. wrong j) (λ a b j. j) .fits))))
 
--- .. and leaves State 3 or 4, with its exchange and its address
+-- .. and leaves State 3 or 4, with its exchange
 pub parted-joined : (p : Record) → isJoined (partedOf p) ≡ false
 unfolding partedOf isJoined changedOf
 parted-joined p = by-bool (ltb (p .state) 3)
@@ -164,7 +166,3 @@ parted-joined p = by-bool (ltb (p .state) 3)
 pub parted-associates : (p : Record) → associates (partedOf p) ≡ associates p
 unfolding partedOf associates changedOf
 parted-associates p = by-bool (ltb (p .state) 3) (λ e. rw e) (λ e. rw e)
-
-pub parted-address : (p : Record) → partedOf p .address ≡ p .address
-unfolding partedOf changedOf
-parted-address p = by-bool (ltb (p .state) 3) (λ e. rw e) (λ e. rw e)

@@ -15,7 +15,7 @@ use Rattle.octets.specs.declared.heard.Kind.{Kind}
 use Rattle.octets.specs.declared.heard.Heard.{Heard}
 use Rattle.octets.specs.declared.heard.Heard.the-variants as heard
 use Rattle.peer.specs.Codes.{lastAid}
-use Rattle.peer.specs.Record.{changedOf, freeOf, isSent, queriedOf, underWay}
+use Rattle.peer.specs.Record.{changedOf, isSent, queriedOf}
 use Rattle.peer.specs.Moves.{movedOf}
 use Rattle.peer.specs.Turn.{admit, discard, confirmOf, toldOf, turnOf, soleOf, endedOf, begunOf, repliedOf, stillOf}
 use Rattle.peer.specs.Filter.{passesOf}
@@ -36,6 +36,7 @@ use Rattle.peer.specs.declared.turn.Turn.{Turn}
 use Rattle.peer.proofs.Moved.{calm-low}
 use Rattle.peer.proofs.Keeps.{answered-calm, declined-calm}
 use Rattle.peer.proofs.Roles.{authentication-by, request-by}
+use Rattle.peer.proofs.TickKeeps.{freed-by}
 
 -- ---- Holds
 
@@ -103,16 +104,7 @@ unfolding timedOf endedOf changedOf
 timed-hold s p d = by-bool (eqb (p .left) 0) (λ e. rw e) (λ e. by-bool (ltb d (p .left)) (λ f. rw (e, f)) (λ f. rw (e, f)))
 
 freed-hold : (q : Record) → freedOf q .hold ≡ q .hold
-unfolding freedOf
-freed-hold q = by-bool (eqb (q .state) 1 && (eqb (q .hold) 0 && eqb (underWay (q .exchange)) 0)) gone (λ e. rw e)
-  where
-    both-zero : (a b c : Bool) → (a && (b && c)) ≡ true → b ≡ true
-    both-zero true true c e = refl
-    both-zero true false c e = e
-    both-zero false b c e = let z : _≡_ {A = Bool} false true = e in cc
-
-    gone : (eqb (q .state) 1 && (eqb (q .hold) 0 && eqb (underWay (q .exchange)) 0)) ≡ true → pick (eqb (q .state) 1 && (eqb (q .hold) 0 && eqb (underWay (q .exchange)) 0)) freeOf q .hold ≡ q .hold
-    gone e = rw e (sym (eqb-true (q .hold) 0 (both-zero (eqb (q .state) 1) (eqb (q .hold) 0) (eqb (underWay (q .exchange)) 0) e)))
+freed-hold q = freed-by (λ r. r .hold ≡ q .hold) q (λ z l. sym (eqb-true (q .hold) 0 z)) refl
 
 pub hold-after-step : (s : Settings) (p : Record) (d : ℕ) → tickOf s p d .peer .hold ≡ p .hold - d
 unfolding tickOf queriedTimed queriedOf

@@ -7,6 +7,7 @@ pub mod Classes
 pub mod HearKeeps
 pub mod AskKeeps
 pub mod TickKeeps
+pub mod Links
 pub mod Editions
 pub mod EditionsAlike
 pub mod LawsOfUse
@@ -14,6 +15,7 @@ pub mod ErrorsThatLookRight
 pub mod AdHoc
 pub mod Sent
 pub mod AskSaid
+pub mod Spoken
 pub mod HearSaid
 pub mod Queries
 pub mod QueryRuns

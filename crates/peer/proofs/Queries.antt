@@ -8,6 +8,7 @@ use mathlib.Core.Path.{_≡_, refl}
 use mathlib.Core.Bool.{Bool, true, false, not, _&&_}
 use Rattle.octets.proofs.Branch.{pick-both}
 use Rattle.octets.specs.Address.{validOf}
+use Rattle.octets.specs.Links.{noLinks, unlinked}
 use Rattle.octets.specs.declared.class.FrameClass.the-variants as class
 use Rattle.octets.specs.declared.class.FrameClass.{FrameClass}
 use Rattle.octets.specs.declared.heard.Heard.the-variants as heard
@@ -17,7 +18,7 @@ use Rattle.peer.specs.Association.{requestHeard}
 use Rattle.peer.specs.Authentication.{requestedOf}
 use Rattle.peer.specs.Challenge.{challengedOf, isChallenged, passedOf, queryingOf}
 use Rattle.peer.specs.Filter.{passesOf}
-use Rattle.peer.specs.Fit.{highestState, holdFits, queryAllowed, queryStands, recordFits, runningFits}
+use Rattle.peer.specs.Fit.{highestState, holdFits, linksFit, queryAllowed, queryStands, recordFits, runningFits}
 use Rattle.peer.specs.Hear.{groupHeard, hearOf}
 use Rattle.peer.specs.Moves.{dsNone}
 use Rattle.peer.specs.Query.{isRunning, isTimedOut, queryIn, runningOf, steppedOf, unmarkedOf}
@@ -159,14 +160,14 @@ pub guarded : Guarded site
 guarded = record { role = refl; edition = refl; protection = refl }
 
 abbrev pub joined : Query → ℕ → Record
-joined q identifier = record { address = 4; state = 4; exchange = None; left = 0; hold = 0; query = q; identifier = identifier }
+joined q identifier = record { address = 4; state = 4; exchange = None; left = 0; hold = 0; query = q; identifier = identifier; links = unlinked }
 
 -- well formed, with no query, one that runs, and the mark
 all-fit :
     (settingsFit site && (recordFits site (joined query.None 0)
     && (recordFits site (joined (query.Running 1000 true) 65535) && recordFits site (joined query.TimedOut 7))))
     ≡ true
-unfolding settingsFit queryTimesFit timeFits networkFits validOf recordFits highestState holdFits roleAsks roleAssociates queryAllowed runningFits queryStands
+unfolding settingsFit queryTimesFit timeFits networkFits validOf recordFits highestState holdFits roleAsks roleAssociates queryAllowed runningFits queryStands linksFit noLinks
 all-fit = refl
 
 -- the first request starts a query, at the maximum and with the next identifier; the second leaves it

@@ -6,7 +6,8 @@ use mathlib.Core.Bool.{Bool, true, false, _&&_}
 use native.Mathlib.Omega.{arith}
 use lib.Dec.{eqb, leb, ltb}
 use borrow.Author.Tests.{eq-eqb, ne-eqb, eqb-true, le-leb, leb-true, ltb-true}
-use Rattle.octets.proofs.Branch.{by-bool}
+use Rattle.octets.proofs.Branch.{by-bool, pick-by}
+use Rattle.octets.specs.Links.{noLinks}
 use Rattle.peer.specs.Fit.{holdFits, placeFits}
 use Rattle.peer.specs.Moves.{movedOf}
 use Rattle.peer.specs.Query.{queryNumber, queryTimed}
@@ -66,16 +67,24 @@ timed-keeps s p d f = by-bool (eqb (p .left) 0)
     held : holdFits (s .role) (p .hold - d) ≡ true
     held = hold-less (s .role) (p .hold) d (f .held)
 
--- "every record in State 1 without exchange and with hold 0 is freed"; any place may be
+-- "every record in State 1 without exchange and with hold 0 is freed"; 02, K11: "A record with links is freed by no clock step"
+pub freed-by :
+    (P : Record → Type 0) (q : Record) → (eqb (q .hold) 0 ≡ true → noLinks (q .links) ≡ true → P freeOf) → P q → P (freedOf q)
+unfolding freedOf
+freed-by P q gone stays =
+    pick-by P (eqb (q .state) 1 && (eqb (q .hold) 0 && (eqb (underWay (q .exchange)) 0 && noLinks (q .links))))
+    (λ e.
+    let h = both (eqb (q .hold) 0) _ (both (eqb (q .state) 1) _ e .1) in
+    gone (h .0) (both (eqb (underWay (q .exchange)) 0) _ (h .1) .1))
+    (λ e. stays)
+
+-- any place may be freed
 free-placed : {s : Settings} {busy sole : Bool} {p : Record} → Placed s busy p freeOf sole
-unfolding placeFits isFree isJoined associates
+unfolding placeFits isFree isJoined associates noLinks
 free-placed = record { place = refl; same = λ e. wrong (sym e); joins = λ a b j. wrong j; starts = λ a b j. wrong j }
 
 pub freed-placed : {s : Settings} {busy sole : Bool} {p q : Record} → Placed s busy p q sole → Placed s busy p (freedOf q) sole
-unfolding freedOf
-freed-placed {q} k = by-bool (eqb (q .state) 1 && (eqb (q .hold) 0 && eqb (underWay (q .exchange)) 0))
-    (λ e. rw e free-placed)
-    (λ e. rw e k)
+freed-placed {s} {busy} {sole} {p} {q} k = freed-by (λ r. Placed s busy p r sole) q (λ z l. free-placed) k
 
 -- what is left of a query falls
 queried-keeps : (s : Settings) (p : Record) (d : ℕ) → Fits s p → Keeps s true p (queriedTimed s p d) false

@@ -4,8 +4,10 @@ use Prim.Native.Nat.{ℕ}
 use mathlib.Core.Bool.{Bool, _&&_, _||_, not, true}
 use lib.Dec.{eqb, leb}
 use Rattle.octets.specs.Address.{validOf}
+use Rattle.octets.specs.Links.{noLinks}
 use Rattle.octets.specs.Pick.{pick}
 use Rattle.octets.specs.declared.heard.Kind.{Kind}
+use Rattle.octets.specs.declared.links.Links.{Links}
 use Rattle.peer.specs.Record.{isAssociating, isFree}
 use Rattle.peer.specs.Settings.{ap, roleAnswers, roleAsks, roleAssociates, timeFits}
 use Rattle.peer.specs.declared.query.Query.the-variants as query
@@ -57,11 +59,28 @@ queryFits s state query.TimedOut = queryStands s state
 unfoldable pub queryAllowed : Settings → Record → Bool
 queryAllowed s p = leb (p .identifier) 65535 && queryFits s (p .state) (p .query)
 
+-- 02, K11: "every address outside free places valid, not own and unlike every other" (that last of the whole table). A slot has a link only if
+-- what stands before it is an address.
+unfoldable pub slotFits : ℕ → ℕ → ℕ → Bool
+slotFits own before l = eqb l 0 || (not (eqb before 0) && (not (eqb l own) && validOf l))
+
+unfoldable pub linksStand : ℕ → ℕ → Links → Bool
+linksStand own address ls =
+    slotFits own address (ls .one)
+    && (slotFits own (ls .one) (ls .two)
+    && (slotFits own (ls .two) (ls .three)
+    && slotFits own (ls .three) (ls .four)))
+
+-- "links only at an access point"
+unfoldable pub linksFit : Settings → Record → Bool
+linksFit s p = noLinks (p .links) || (eqb (s .role) ap && linksStand (s .own) (p .address) (p .links))
+
 -- "each in State 1 to 4"; 02, K10: "States over 2 are not well formed"
 unfoldable pub highestState : ℕ → ℕ
 highestState role = pick (roleAssociates role) 4 2
 
--- "each in State 1 to 4"; "outside free places no address is invalid, own"; the hold, the exchange and the query as above
+-- "each in State 1 to 4"; "outside free places no address is invalid, own"; the hold, the exchange, the
+-- query and the links as above
 unfoldable pub recordFits : Settings → Record → Bool
 recordFits s p =
     leb 1 (p .state) && (leb (p .state) (highestState (s .role))
@@ -69,7 +88,8 @@ recordFits s p =
     && (validOf (p .address)
     && (holdFits (s .role) (p .hold)
     && (exchangeFits (p .exchange) (s .role) (p .state) (p .left)
-    && queryAllowed s p)))))
+    && (queryAllowed s p
+    && linksFit s p))))))
 
 -- "each in State 1 to 4 or all zero"
 unfoldable pub placeFits : Settings → Record → Bool

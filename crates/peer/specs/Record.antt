@@ -3,9 +3,11 @@
 use Prim.Native.Nat.{ℕ, _+_}
 use mathlib.Core.Bool.{Bool, _&&_, false, true}
 use lib.Dec.{eqb, leb}
+use Rattle.octets.specs.Links.{noLinks, unlinked}
 use Rattle.octets.specs.Pick.{pick}
 use Rattle.octets.specs.declared.heard.Kind.the-variants.{Association, Authentication, Reassociation}
 use Rattle.octets.specs.declared.heard.Kind.{Kind}
+use Rattle.octets.specs.declared.links.Links.{Links}
 use Rattle.peer.specs.Query.{queryIn, queryNumber}
 use Rattle.peer.specs.declared.query.Query.the-variants as query
 use Rattle.peer.specs.declared.query.Query.{Query}
@@ -84,13 +86,14 @@ isJoined p = leb 3 (p .state)
 unfoldable pub associates : Record → Bool
 associates p = leb (kindOf Association) (underWay (p .exchange))
 
--- "a fresh record has one fixed form: State 1, no exchange, times zero"; 02, K5: "The identifier starts at 0", and no query runs
+-- "a fresh record has one fixed form: State 1, no exchange, times zero"; 02, K5: "The identifier starts at 0", and no query runs;
+-- 02, K11: it has no links
 unfoldable pub freshOf : ℕ → Record
-freshOf a = record { address = a; state = 1; exchange = None; left = 0; hold = 0; query = query.None; identifier = 0 }
+freshOf a = record { address = a; state = 1; exchange = None; left = 0; hold = 0; query = query.None; identifier = 0; links = unlinked }
 
 -- "A free place is all zero."
 abbrev pub freeOf : Record
-freeOf = record { address = 0; state = 0; exchange = None; left = 0; hold = 0; query = query.None; identifier = 0 }
+freeOf = record { address = 0; state = 0; exchange = None; left = 0; hold = 0; query = query.None; identifier = 0; links = unlinked }
 
 unfoldable pub isFree : Record → Bool
 isFree p =
@@ -99,7 +102,8 @@ isFree p =
     && (eqb (p .hold) 0
     && (eqb (p .identifier) 0
     && (eqb (queryNumber (p .query)) 0
-    && eqb (underWay (p .exchange)) 0)))))
+    && (noLinks (p .links)
+    && eqb (underWay (p .exchange)) 0))))))
 
 -- The record of the same peer with another state, exchange and times. 02, K5: "Leaving State 4 clears both", the query and the mark: here, and
 -- nowhere else; the identifier "is kept in the record".
@@ -113,6 +117,7 @@ changedOf p state e left hold =
       hold = hold;
       query = queryIn state (p .query);
       identifier = p .identifier;
+      links = p .links;
     }
 
 -- The same record with another query: "the record else untouched".
@@ -126,7 +131,26 @@ queriedOf p q identifier =
       hold = p .hold;
       query = q;
       identifier = identifier;
+      links = p .links;
     }
+
+-- The same record with other links. 02, K11: "another count replaces them"
+unfoldable pub linkedOf : Record → Links → Record
+linkedOf p ls =
+    record {
+      address = p .address;
+      state = p .state;
+      exchange = p .exchange;
+      left = p .left;
+      hold = p .hold;
+      query = p .query;
+      identifier = p .identifier;
+      links = ls;
+    }
+
+-- 02, K11: "frames asked by a primitive to the first link (none: the device)"
+unfoldable pub spokenAt : Record → ℕ
+spokenAt p = pick (eqb (p .links .one) 0) (p .address) (p .links .one)
 
 -- "2 s is 1,953.125 TU." In whole TU, rounded up.
 abbrev pub defaultHold : ℕ

@@ -9,7 +9,7 @@ use Rattle.octets.specs.declared.frame.Body.{Body}
 use Rattle.octets.specs.declared.heard.Kind.the-variants.{Association, Authentication, Reassociation}
 use Rattle.octets.specs.declared.heard.Kind.{Kind}
 use Rattle.peer.specs.Settings.{adHoc, ap}
-use Rattle.peer.specs.declared.reply.Reply.the-variants.{Send}
+use Rattle.peer.specs.declared.reply.Reply.the-variants.{Send, Silent}
 use Rattle.peer.specs.declared.reply.Reply.{Reply}
 use Rattle.peer.specs.declared.settings.Settings.{Settings}
 
@@ -17,7 +17,7 @@ use Rattle.peer.specs.declared.settings.Settings.{Settings}
 unfoldable pub networkAddress : Settings → ℕ → ℕ
 networkAddress s peer = pick (eqb (s .role) ap) (s .own) (pick (eqb (s .role) adHoc) (s .network) peer)
 
--- "Address 1 peer, Address 2 own"
+-- "Address 1 peer, Address 2 own". To which of its addresses a device is spoken to is `directedOf`.
 unfoldable pub sendOf : Settings → ℕ → ℕ → Body → Reply
 sendOf s peer subtype b =
     Send (record { subtype = subtype; address1 = peer; address2 = s .own; address3 = networkAddress s peer; body = b })
@@ -69,3 +69,10 @@ queryResponse = 1
 
 unfoldable pub queryTo : Settings → ℕ → ℕ → ℕ → Reply
 queryTo s peer action identifier = sendOf s peer 13 (body.Query action identifier)
+
+-- The same frame to another address of the peer. 02, K11: "Replies go to the frame's Address 2, frames asked by a primitive to the first link (none:
+-- the device)."
+abbrev pub directedOf : ℕ → Reply → Reply
+directedOf a Silent = Silent
+directedOf a (Send f) =
+    Send (record { subtype = f .subtype; address1 = a; address2 = f .address2; address3 = f .address3; body = f .body })

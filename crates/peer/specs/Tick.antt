@@ -5,6 +5,7 @@
 use Prim.Native.Nat.{_-_, ℕ}
 use mathlib.Core.Bool.{_&&_}
 use lib.Dec.{eqb, ltb}
+use Rattle.octets.specs.Links.{noLinks}
 use Rattle.octets.specs.Pick.{pick}
 use Rattle.octets.specs.declared.heard.Kind.the-variants.{Authentication}
 use Rattle.peer.specs.Query.{queryReport, queryTimed}
@@ -29,9 +30,9 @@ timedOf s p d =
     (record { peer = changedOf p (p .state) (p .exchange) (p .left - d) (p .hold - d); report = 0 })
     (record { peer = endedOf s p (expiredMove (underWay (p .exchange))) (p .hold - d); report = underWay (p .exchange) }))
 
--- "every record in State 1 without exchange and with hold 0 is freed"
+-- "every record in State 1 without exchange and with hold 0 is freed"; 02, K11: "A record with links is freed by no clock step"
 unfoldable pub freedOf : Record → Record
-freedOf p = pick (eqb (p .state) 1 && (eqb (p .hold) 0 && eqb (underWay (p .exchange)) 0)) freeOf p
+freedOf p = pick (eqb (p .state) 1 && (eqb (p .hold) 0 && (eqb (underWay (p .exchange)) 0 && noLinks (p .links)))) freeOf p
 
 -- The query of a record after a step, and what is reported: "one report a record". An exchange that ends and a query never stand in one record
 -- that is well formed (an AP's exchanges have no time); its report would win.

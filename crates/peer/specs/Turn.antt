@@ -4,8 +4,10 @@ use Prim.Native.Nat.{ℕ}
 use mathlib.Core.Bool.{false, true}
 use Rattle.octets.specs.declared.heard.Kind.the-variants.{Association, Authentication, Reassociation}
 use Rattle.octets.specs.declared.heard.Kind.{Kind}
+use Rattle.octets.specs.declared.links.Links.{Links}
 use Rattle.peer.specs.Moves.{dsOf, movedOf}
-use Rattle.peer.specs.Record.{changedOf}
+use Rattle.peer.specs.Record.{changedOf, linkedOf}
+use Rattle.peer.specs.Reply.{directedOf}
 use Rattle.peer.specs.declared.moves.Move.{Move}
 use Rattle.peer.specs.declared.record.Exchange.the-variants.{None}
 use Rattle.peer.specs.declared.record.Exchange.{Exchange}
@@ -66,6 +68,11 @@ unfoldable pub soleOf : Turn → Turn
 soleOf t =
     record { peer = t .peer; told = t .told; verdict = t .verdict; ds = t .ds; sole = true; reply = t .reply }
 
+-- The same, with what is said sent to an address of the peer.
+unfoldable pub towardsOf : ℕ → Turn → Turn
+towardsOf a t =
+    record { peer = t .peer; told = t .told; verdict = t .verdict; ds = t .ds; sole = t .sole; reply = directedOf a (t .reply) }
+
 -- The record after a move that ends the exchange, with a hold.
 unfoldable pub endedOf : Settings → Record → Move → ℕ → Record
 endedOf s p m hold = changedOf p (movedOf (s .rsna) (p .state) m) None 0 hold
@@ -80,3 +87,7 @@ repliedOf s p verdict reply = turnOf s p p verdict nothingTold reply
 
 unfoldable pub stillOf : Settings → Record → ℕ → Turn
 stillOf s p verdict = repliedOf s p verdict Silent
+
+-- 02, K11, primitive 12: "count 0 takes its links away ..., another count replaces them"; all else stays, and nothing is said.
+unfoldable pub linkingOf : Settings → Record → Links → Turn
+linkingOf s p ls = turnOf s p (linkedOf p ls) none nothingTold Silent

@@ -9,8 +9,9 @@ use crate::settings::asks;
 use crate::settings::associates;
 use octets::address::valid;
 use octets::heard::Kind;
+use octets::links::Links;
 ghost use mathlib.Core.Path.{_≡_};
-ghost use Rattle.peer.specs.Fit.{askedFits, awaitingFits, exchangeFits, highestState, holdFits, placeFits, queryAllowed, queryFits, queryStands, recordFits, runningFits, sentFits, stands};
+ghost use Rattle.peer.specs.Fit.{askedFits, awaitingFits, exchangeFits, highestState, holdFits, linksFit, linksStand, placeFits, queryAllowed, queryFits, queryStands, recordFits, runningFits, sentFits, slotFits, stands};
 
 // Whether a kind of exchange may stand at a role in a state.
 fn standing(k: Kind, role: u8, state: u8) -> bool
@@ -122,6 +123,52 @@ fn query_allowed(s: Settings, p: Record) -> bool
     query_fits(s, p.state, q)
 }
 
+// Whether a slot has no link, or a valid one that is not our own, behind an address.
+fn slot_fits(own: u64, before: u64, link: u64) -> bool
+    ensures { λ r. ⌜ r ≡ slotFits own before link ⌝ }
+{
+    if link == 0 {
+        return true;
+    }
+    if before == 0 {
+        return false;
+    }
+    if link == own {
+        return false;
+    }
+    valid(link)
+}
+
+// Whether links are addresses that may stand at a device, and fill the slots from the first on.
+pub fn links_stand(own: u64, address: u64, links: Links) -> bool
+    ensures { λ r. ⌜ r ≡ linksStand own address links ⌝ }
+{
+    if slot_fits(own, address, links.one) {} else {
+        return false;
+    }
+    if slot_fits(own, links.one, links.two) {} else {
+        return false;
+    }
+    if slot_fits(own, links.two, links.three) {} else {
+        return false;
+    }
+    slot_fits(own, links.three, links.four)
+}
+
+// Whether a record's links fit: none, or at an AP.
+fn links_fit(s: Settings, p: Record) -> bool
+    ensures { λ r. ⌜ r ≡ linksFit s p ⌝ }
+{
+    let links = p.links;
+    if links.is_none() {
+        return true;
+    }
+    if s.role != Settings::AP {
+        return false;
+    }
+    links_stand(s.own, p.address, links)
+}
+
 // The highest state there is at a role.
 pub fn highest(role: u8) -> u8
     ensures { λ r. ⌜ r ≡ highestState role ⌝ }
@@ -158,7 +205,10 @@ fn record_fits(s: Settings, p: Record) -> bool
     if exchange_fits(e, s.role, state, p.left) {} else {
         return false;
     }
-    query_allowed(s, p)
+    if query_allowed(s, p) {} else {
+        return false;
+    }
+    links_fit(s, p)
 }
 
 // Whether a place is free or its record well formed by itself.

@@ -1,10 +1,11 @@
-// A peer's record: its address, its state, the exchange under way, the times left, and a query to it.
+// A peer's record: its address, its state, the exchange under way, the times left, a query to it, and its links.
 use crate::query::Query;
 use crate::query::query_in;
 use crate::query::query_number;
 use octets::heard::Kind;
+use octets::links::Links;
 ghost use mathlib.Core.Path.{_≡_};
-ghost use Rattle.peer.specs.Record.{askedOf, associates, awaitingOf, changedOf, exchangeNumber, exchangeOf, freeOf, freshOf, isAssociating, isFree, isJoined, kindOf, queriedOf, sentOf, underWay};
+ghost use Rattle.peer.specs.Record.{askedOf, associates, awaitingOf, changedOf, exchangeNumber, exchangeOf, freeOf, freshOf, isAssociating, isFree, isJoined, kindOf, linkedOf, queriedOf, sentOf, spokenAt, underWay};
 
 // The exchange under way.
 pub enum Exchange {
@@ -27,6 +28,8 @@ pub struct Record {
     // An SA Query to the peer, and the identifier of its last one.
     pub query: Query,
     pub identifier: u16,
+    // The addresses of a device's links, at an AP.
+    pub links: Links,
 }
 
 // The numbers of the kinds.
@@ -168,6 +171,7 @@ impl Record {
             hold: 0,
             query: Query::None,
             identifier: 0,
+            links: Links::none(),
         }
     }
 
@@ -183,6 +187,7 @@ impl Record {
             hold: 0,
             query: Query::None,
             identifier: 0,
+            links: Links::none(),
         }
     }
 
@@ -191,6 +196,7 @@ impl Record {
         ensures { λ r. ⌜ r ≡ changedOf self state exchange left hold ⌝ }
     {
         let query = self.query;
+        let links = self.links;
         Record {
             address: self.address,
             state,
@@ -199,6 +205,7 @@ impl Record {
             hold,
             query: query_in(state, query),
             identifier: self.identifier,
+            links,
         }
     }
 
@@ -207,6 +214,7 @@ impl Record {
         ensures { λ r. ⌜ r ≡ queriedOf self query identifier ⌝ }
     {
         let exchange = self.exchange;
+        let links = self.links;
         Record {
             address: self.address,
             state: self.state,
@@ -215,6 +223,37 @@ impl Record {
             hold: self.hold,
             query,
             identifier,
+            links,
+        }
+    }
+
+    // The same record with other links.
+    pub fn linked(self, links: Links) -> Record
+        ensures { λ r. ⌜ r ≡ linkedOf self links ⌝ }
+    {
+        let exchange = self.exchange;
+        let query = self.query;
+        Record {
+            address: self.address,
+            state: self.state,
+            exchange,
+            left: self.left,
+            hold: self.hold,
+            query,
+            identifier: self.identifier,
+            links,
+        }
+    }
+
+    // The address that our own frames go to: the first link's, or the device's.
+    pub fn spoken_at(self) -> u64
+        ensures { λ r. ⌜ r ≡ spokenAt self ⌝ }
+    {
+        let links = self.links;
+        if links.one == 0 {
+            self.address
+        } else {
+            links.one
         }
     }
 
@@ -239,6 +278,10 @@ impl Record {
         }
         let q = self.query;
         if query_number(q) != 0 {
+            return false;
+        }
+        let links = self.links;
+        if links.is_none() {} else {
             return false;
         }
         let e = self.exchange;

@@ -5,7 +5,7 @@ use octets::frame::Frame;
 use octets::frame::capability;
 use octets::heard::Kind;
 ghost use mathlib.Core.Path.{_≡_};
-ghost use Rattle.peer.specs.Reply.{authenticationTo, deauthenticationTo, disassociationTo, laterTo, networkAddress, queryTo, requestBody, requestSubtype, requestTo, responseSubtype, responseTo, sendOf};
+ghost use Rattle.peer.specs.Reply.{authenticationTo, deauthenticationTo, directedOf, disassociationTo, laterTo, networkAddress, queryTo, requestBody, requestSubtype, requestTo, responseSubtype, responseTo, sendOf};
 
 pub enum Reply {
     Silent,
@@ -161,4 +161,23 @@ pub fn query(s: Settings, peer: u64, action: u8, identifier: u16) -> Reply
     ensures { λ r. ⌜ r ≡ queryTo s peer action identifier ⌝ }
 {
     send(s, peer, Frame::ACTION, Body::Query { action, identifier })
+}
+
+// The same frame to another address of the peer.
+pub fn directed(reply: Reply, address: u64) -> Reply
+    ensures { λ r. ⌜ r ≡ directedOf address reply ⌝ }
+{
+    match reply {
+        Reply::Silent => Reply::Silent,
+        Reply::Send(f) => {
+            let body = f.body;
+            Reply::Send(Frame {
+                subtype: f.subtype,
+                address1: address,
+                address2: f.address2,
+                address3: f.address3,
+                body,
+            })
+        }
+    }
 }

@@ -62,7 +62,7 @@ fn timed(s: Settings, p: Record, d: u16) -> Ticked
     }
 }
 
-// A record in State 1 with no exchange and no hold is freed.
+// A record in State 1 with no exchange, no hold and no links is freed.
 fn freed(p: Record) -> Record
     ensures { λ r. ⌜ r ≡ freedOf p ⌝ }
 {
@@ -73,7 +73,11 @@ fn freed(p: Record) -> Record
         return p;
     }
     let e = p.exchange;
-    if under_way(e) == 0 { Record::free() } else { p }
+    if under_way(e) != 0 {
+        return p;
+    }
+    let links = p.links;
+    if links.is_none() { Record::free() } else { p }
 }
 
 // What is left of a query falls too.

@@ -5,10 +5,12 @@ use crate::moves::moved;
 use crate::record::Exchange;
 use crate::record::Record;
 use crate::reply::Reply;
+use crate::reply::directed;
 use crate::settings::Settings;
 use octets::heard::Kind;
+use octets::links::Links;
 ghost use mathlib.Core.Path.{_≡_};
-ghost use Rattle.peer.specs.Turn.{begunOf, confirmOf, endedOf, indicationOf, nothingTold, repliedOf, soleOf, stillOf, toldOf, turnOf};
+ghost use Rattle.peer.specs.Turn.{begunOf, confirmOf, endedOf, indicationOf, linkingOf, nothingTold, repliedOf, soleOf, stillOf, toldOf, towardsOf, turnOf};
 
 // The notice that a request of a kind was heard.
 pub fn indication(k: Kind) -> u8
@@ -138,6 +140,23 @@ impl Turn {
             reply,
         }
     }
+
+    // The same, with what is said sent to an address of the peer.
+    pub fn towards(self, address: u64) -> Turn
+        ensures { λ r. ⌜ r ≡ towardsOf address self ⌝ }
+    {
+        let peer = self.peer;
+        let told = self.told;
+        let reply = self.reply;
+        Turn {
+            peer,
+            told,
+            verdict: self.verdict,
+            ds: self.ds,
+            sole: self.sole,
+            reply: directed(reply, address),
+        }
+    }
 }
 
 // The record after a move that ends the exchange, with a hold.
@@ -167,4 +186,18 @@ pub fn still(s: Settings, p: Record, verdict: u8) -> Turn
     ensures { λ r. ⌜ r ≡ stillOf s p verdict ⌝ }
 {
     replied(s, p, verdict, Reply::Silent)
+}
+
+// A device's links are named: all else stays.
+pub fn linking(s: Settings, p: Record, links: Links) -> Turn
+    ensures { λ r. ⌜ r ≡ linkingOf s p links ⌝ }
+{
+    Turn::of(
+        s,
+        p,
+        p.linked(links),
+        Turn::NONE,
+        Told::nothing(),
+        Reply::Silent,
+    )
 }

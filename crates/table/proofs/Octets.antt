@@ -3,6 +3,7 @@ pub mod RowStores
 pub mod RecordTrip
 pub mod Standings
 pub mod QueryStandings
+pub mod LinkStandings
 pub mod Surveys
 pub mod HostLaws
 pub mod BoundaryLaws

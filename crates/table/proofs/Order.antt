@@ -6,3 +6,4 @@ pub mod OwnTurn
 pub mod DemandThree
 pub mod Allowed
 pub mod OrderExamples
+pub mod LinkOrder

@@ -1,5 +1,8 @@
 pub mod Loops
 pub mod Lists
+pub mod LinkLaws
+pub mod LinkStores
+pub mod LinkMarks
 pub mod Tallies
 pub mod Ticks
 pub mod Views

@@ -1,6 +1,8 @@
 pub mod WordedPrimitives
 pub mod WordedRecords
 pub mod Worded
+pub mod WordedElsewhere
+pub mod WordedLinks
 pub mod Gives
 pub mod MarkedCases
 pub mod RefusedExactly
@@ -8,7 +10,12 @@ pub mod RefusedKeeps
 pub mod WrittenCount
 pub mod Timeouts
 pub mod Well
+pub mod Seated
+pub mod LinksStay
+pub mod LinkKeeps
 pub mod StepKeeps
+pub mod Links
+pub mod LinkFrames
 pub mod DiscardLeaves
 pub mod Editions
 pub mod EditionsAlike
@@ -16,3 +23,4 @@ pub mod Forged
 pub mod PlacesKept
 pub mod SaidBack
 pub mod SaidExamples
+pub mod LinkExamples

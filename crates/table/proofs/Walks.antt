@@ -4,3 +4,4 @@ pub mod Guards
 pub mod LocalArray
 pub mod Shared
 pub mod LentLaws
+pub mod LinkLists

@@ -38,7 +38,7 @@ pub record Told : Type 0 where
   pub bytes : List ℕ
 
 -- Over octets, the settings' ss too: what the call leaves of the table, and what the host gets. This is what `peer_receive_octets`,
--- `peer_ask_octets` and `peer_pass_octets` promise.
+-- `peer_ask_octets`, `peer_links_octets` and `peer_pass_octets` promise.
 abbrev pub callOver : List ℕ → List ℕ → Call → Crossed
 callOver ss xs c = crossedOf xs ss (c .event) (c .frame) (c .out) (c .room)
 
@@ -92,7 +92,7 @@ writtenIn g = field 2 10 (g .answer)
 abbrev pub CallSaid : List ℕ → Type 0
 CallSaid ss =
     (xs : List ℕ) (c : Call) → Spoken (c .event) (c .frame) → called ss xs c .1 .result ≡ 0 → 0 < writtenIn (called ss xs c .1)
-    → ReadsTo (settingsIn ss) (spokenTo (c .event) (c .frame)) (saysIn (settingsIn ss) (recordsOf xs) (c .event) (c .frame))
+    → ReadsTo (settingsIn ss) (spokenTo (recordsOf xs) (c .event) (c .frame)) (saysIn (settingsIn ss) (recordsOf xs) (c .event) (c .frame))
     (take (writtenIn (called ss xs c .1)) (called ss xs c .1 .bytes))
 
 -- Demand 3 for a host's octets: events without clock steps, as calls with room for their answers, each event with its own wherever it is moved.
@@ -107,6 +107,6 @@ OrderFreeOctets ss =
     (xs : List ℕ) (room : Handed → List ℕ) (l₁ l₂ : List Handed) (to from : ℕ → ℕ)
     → roleAnswers (settingsIn ss .role) ≡ true → allOctets xs ≡ true → isTable xs ≡ true → wellFormed (settingsIn ss) (recordsOf xs) ≡ true
     → ((e : Handed) → 24 ≤ length (room e))
-    → Named freeOf addressOf (peerNamed (settingsIn ss)) (recordsOf xs) l₁
-    → Moved (peerNamed (settingsIn ss)) l₁ l₂ to from
+    → Named freeOf addressOf (peerNamed (settingsIn ss) (recordsOf xs)) (recordsOf xs) l₁
+    → Moved (peerNamed (settingsIn ss) (recordsOf xs)) l₁ l₂ to from
     → SameOutcome (calledFor ss room) xs l₁ l₂ to

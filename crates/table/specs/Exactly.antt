@@ -1,7 +1,7 @@
 -- 00, demand 1: "gives a refusal from the listed numbers, exactly when the list says so". The lists of each call, in the order of 01,
 -- "Refusal numbers", and what "First that applies" means.
 -- Assumes nothing.
-use Prim.Native.Nat.{ℕ}
+use Prim.Native.Nat.{ℕ, _+_, _*_}
 use mathlib.Core.Path.{_≡_}
 use mathlib.Core.Bool.{Bool, true, false, not, _&&_, _||_}
 use mathlib.Core.List.{List, [], _∷_, _++_}
@@ -19,9 +19,10 @@ use Rattle.peer.specs.Settings.{ap, roleAnswers, roleAsks, roleAssociates, stat
 use Rattle.peer.specs.Record.{associates, awaitingOf, isAsked, isFree, isJoined, underWay}
 use Rattle.peer.specs.declared.settings.Settings.{Settings}
 use Rattle.peer.specs.declared.record.Record.{Record}
-use Rattle.table.specs.Places.{allOf}
+use Rattle.table.specs.Places.{allOf, hasLink, someOf}
 use Rattle.table.specs.Fit.{wellFormed}
 use Rattle.table.specs.Answer.{refusalAnswer}
+use Rattle.table.specs.Link.{countIn, deviceIn, givenIn}
 use Rattle.table.specs.Read.{forUs}
 use Rattle.table.specs.declared.rules.answer.Stepped.{Stepped}
 use Rattle.table.specs.declared.rules.event.Event.{Event}
@@ -71,11 +72,6 @@ readRefusals own xs =
 -- A received frame, lent a buffer of n octets: "Refusals 1, 2", then as above.
 abbrev pub frameRefusals : Settings → List Record → List ℕ → ℕ → List (ℕ × Bool)
 frameRefusals s t xs n = (1, ltb n longest) ∷ (2, not (wellFormed s t)) ∷ readRefusals (s .own) xs
-
--- Some element passes a test.
-unfoldable pub someOf : {A : Type 0} → (A → Bool) → List A → Bool
-someOf f [] = false
-someOf f (p ∷ ps) = f p || someOf f ps
 
 -- What the table of primitives says of one: its number, for which role it is, which codes it takes.
 pub data Who : Type 0 where
@@ -140,10 +136,10 @@ peerHas t a f = someOf (λ p. eqb (p .address) a && f p) t
 abbrev pub otherHas : List Record → ℕ → (Record → Bool) → Bool
 otherHas t a f = someOf (λ p. not (eqb (p .address) a) && f p) t
 
--- 3: "unknown primitive; peer address invalid or own; code not allowed"
-abbrev pub notToBeAsked : Settings → ℕ → ℕ → ℕ → Bool
-notToBeAsked s q a c =
-    not (row q (λ r. true)) || (not (validOf a) || (eqb a (s .own) || row q (λ r. not (taken (r .codes) c))))
+-- 3: "unknown primitive; peer address invalid or own; code not allowed"; 02, K11: "a link address named in a primitive"
+abbrev pub notToBeAsked : Settings → List Record → ℕ → ℕ → ℕ → Bool
+notToBeAsked s t q a c =
+    not (row q (λ r. true)) || (not (validOf a) || (eqb a (s .own) || (row q (λ r. not (taken (r .codes) c)) || someOf (hasLink a) t)))
 
 abbrev pub hasExchange : Record → Bool
 hasExchange p = not (eqb (underWay (p .exchange)) 0)
@@ -179,12 +175,46 @@ abbrev pub askRefusals : Settings → List Record → ℕ → ℕ → ℕ → �
 askRefusals s t q a c n =
     (1, ltb n longest)
     ∷ (2, not (wellFormed s t))
-    ∷ (3, notToBeAsked s q a c)
+    ∷ (3, notToBeAsked s t q a c)
     ∷ (5, row q (λ r. not (plays (r .who) (s .role))))
     ∷ (9, underWayAlready t q a)
     ∷ (7, noMatch t q a)
     ∷ (8, peerHeld t q a)
     ∷ (6, noRoom t q a)
+    ∷ []
+
+-- 02, K11, primitive 12: "3 for an address invalid, own, ..
+abbrev pub unfitAddress : Settings → ℕ → Bool
+unfitAddress s a = not (validOf a) || eqb a (s .own)
+
+-- .. given twice ..
+unfoldable pub twice : List ℕ → Bool
+twice [] = false
+twice (a ∷ later) = someOf (eqb a) later || twice later
+
+-- .. or in use elsewhere": another record than the device's has it, as its own address or as a link
+abbrev pub elsewhere : List Record → ℕ → ℕ → Bool
+elsewhere t device a = otherHas t device (λ p. eqb (p .address) a || hasLink a p)
+
+-- "a count over 4, or a link address named in a primitive"; and octets that are not 7 + 6 × count
+abbrev pub notToBeLinked : Settings → List Record → List ℕ → Bool
+notToBeLinked s t xs =
+    ltb 4 (countIn xs)
+    || (not (eqb (length xs) (7 + 6 * countIn xs))
+    || (someOf (unfitAddress s) (deviceIn xs ∷ givenIn xs)
+    || (twice (deviceIn xs ∷ givenIn xs)
+    || (someOf (elsewhere t (deviceIn xs)) (givenIn xs)
+    || someOf (hasLink (deviceIn xs)) t))))
+
+-- "Order 1, 2, 3, 5, 7, 6": "5 away from an access point; 7 outside State 1; 6 without a place"; count 0 "makes no record"
+abbrev pub linkRefusals : Settings → List Record → List ℕ → ℕ → List (ℕ × Bool)
+linkRefusals s t xs n =
+    (1, ltb n longest)
+    ∷ (2, not (wellFormed s t))
+    ∷ (3, notToBeLinked s t xs)
+    ∷ (5, not (eqb (s .role) ap))
+    ∷ (7, peerHas t (deviceIn xs) (λ p. not (eqb (p .state) 1)))
+    ∷ (6, not (eqb (countIn xs) 0) && (not (peerHas t (deviceIn xs) (λ p. true)) && not (someOf isFree t)))
     ∷ []
 
 -- "clock 1, 2, 3": "(256 for a clock step)", "clock step 0"
@@ -195,4 +225,5 @@ clockRefusals s t d n = (1, ltb n 256) ∷ (2, not (wellFormed s t)) ∷ (3, eqb
 abbrev pub refusalsOf : Settings → List Record → Event → List ℕ → ℕ → List (ℕ × Bool)
 refusalsOf s t event.Frame xs n = frameRefusals s t xs n
 refusalsOf s t (event.Ask q a c) xs n = askRefusals s t q a c n
+refusalsOf s t event.Links xs n = linkRefusals s t xs n
 refusalsOf s t (event.Clock d) xs n = clockRefusals s t d n

@@ -1,4 +1,4 @@
--- One event over the octets of a table, as a host lends them: 32 rows of 24, or refusal 2; refusal 1 comes before it. The answer, the table
+-- One event over the octets of a table, as a host lends them: 32 rows of 48, or refusal 2; refusal 1 comes before it. The answer, the table
 -- and the buffer are those of the step over records, through octets to records and back.
 -- Assumes nothing.
 use Prim.Native.Nat.{ℕ}

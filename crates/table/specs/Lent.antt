@@ -19,6 +19,7 @@ use Rattle.table.specs.declared.rules.event.Event.the-variants as event
 abbrev pub roomOf : Event → ℕ
 roomOf event.Frame = longest
 roomOf (event.Ask q a c) = longest
+roomOf event.Links = longest
 roomOf (event.Clock d) = 256
 
 -- What is answered where not 32 records are lent, and n octets of buffer.

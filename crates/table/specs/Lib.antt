@@ -7,6 +7,7 @@ pub mod Refusals
 pub mod Read
 pub mod Receive
 pub mod Ask
+pub mod Link
 pub mod Pass
 pub mod Step
 pub mod Lent

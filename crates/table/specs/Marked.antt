@@ -3,6 +3,7 @@
 -- Assumes nothing.
 use Prim.Native.Nat.{ℕ}
 use mathlib.Core.List.{List, [], _∷_, _++_}
+use Rattle.octets.specs.Links.{unlinked}
 use Rattle.octets.specs.declared.heard.Kind.the-variants as kind
 use Rattle.peer.specs.Moves.{dsNone, dsJoined, dsLeft}
 use Rattle.peer.specs.Turn.{none, admit, discard}
@@ -101,7 +102,7 @@ waits d answer = record { event = event.Clock d; frame = []; room = 256; answer 
 -- The peer's record, without a query.
 abbrev pub peerIn : ℕ → Exchange → ℕ → ℕ → Record
 peerIn state e left hold =
-    record { address = them; state = state; exchange = e; left = left; hold = hold; query = query.None; identifier = 0 }
+    record { address = them; state = state; exchange = e; left = left; hold = hold; query = query.None; identifier = 0; links = unlinked }
 
 -- The frames. Algorithm, transaction, status; capability, listen interval; reason; capability, status, AID, elements.
 abbrev pub authenticationRequest : List ℕ

@@ -4,7 +4,7 @@
 -- Assumes nothing.
 use Prim.Native.Nat.{ℕ, _<_}
 use mathlib.Core.Path.{_≡_}
-use mathlib.Core.Bool.{true}
+use mathlib.Core.Bool.{true, not, _&&_}
 use mathlib.Core.Option.{Option, none, some}
 use mathlib.Core.List.{List, [], _∷_}
 use lib.Dec.{ltb}
@@ -16,6 +16,7 @@ use Rattle.peer.specs.Record.{freeOf}
 use Rattle.peer.specs.Refuse.{roleAllowed}
 use Rattle.peer.specs.declared.settings.Settings.{Settings}
 use Rattle.peer.specs.declared.record.Record.{Record}
+use Rattle.table.specs.Places.{onFound, isFound, findLinkOf}
 use Rattle.table.specs.Fit.{wellFormed}
 use Rattle.table.specs.Read.{readOf}
 use Rattle.table.specs.Ask.{mayAsk}
@@ -101,14 +102,23 @@ readPeer Discarded = none
 readPeer Admitted = none
 readPeer (From peer group k h) = some peer
 
--- The peer that a primitive names: its address, where neither 3 nor 5 refuses it.
-abbrev pub comingPeer : Settings → Coming → Option ℕ
-comingPeer s (frame xs) = readPeer (readOf (s .own) (roleAssociates (s .role)) xs)
-comingPeer s (primitive q a c) = pick (mayAsk s q a c) (pick (roleAllowed q (s .role)) (some a) none) none
+-- 02, K11: "In demand 3 the peer is the device": the record that has the address among its links, else the address itself.
+abbrev pub deviceOf : List Record → ℕ → ℕ
+deviceOf t a = onFound (findLinkOf t a) a (λ i. getD t i freeOf .address)
 
--- The valid peer that an event names; none, too, where its buffer is refused.
-unfoldable pub peerNamed : Settings → Handed → Option ℕ
-peerNamed s e = pick (ltb (length (e .out)) longest) none (comingPeer s (e .coming))
+abbrev pub deviceNamed : List Record → Option ℕ → Option ℕ
+deviceNamed t none = none
+deviceNamed t (some a) = some (deviceOf t a)
+
+-- The peer that a primitive names: its address, where neither 3 nor 5 refuses it.
+abbrev pub comingPeer : Settings → List Record → Coming → Option ℕ
+comingPeer s t (frame xs) = deviceNamed t (readPeer (readOf (s .own) (roleAssociates (s .role)) xs))
+comingPeer s t (primitive q a c) =
+    pick (mayAsk s q a c && not (isFound (findLinkOf t a))) (pick (roleAllowed q (s .role)) (some a) none) none
+
+-- The valid peer that an event names, by the links in the table at the start; none, too, where its buffer is refused.
+unfoldable pub peerNamed : Settings → List Record → Handed → Option ℕ
+peerNamed s t e = pick (ltb (length (e .out)) longest) none (comingPeer s t (e .coming))
 
 abbrev pub addressOf : Record → ℕ
 addressOf p = p .address
@@ -119,11 +129,12 @@ Whole s t = (wellFormed s t ≡ true) × (length t ≡ 32)
 
 -- Demand 3: "At an access point, take fixed settings, a well-formed table and a list of events without clock steps, each handed a buffer of its
 -- own, where every peer named already has a record. Move the events about .. the end table is the same place for place, and every event gets
--- the same answer and the same bytes." 02, K10: "Demand 3 holds for role 3 too": for each role that answers.
+-- the same answer and the same bytes." 02, K10: "Demand 3 holds for role 3 too": for each role that answers. 02, K11: "the peer
+-- is the device and primitive 12 is left out as the clock is".
 abbrev pub OrderFree : Settings → Type 0
 OrderFree s =
     (t : List Record) (l₁ l₂ : List Handed) (to from : ℕ → ℕ)
     → roleAnswers (s .role) ≡ true → Whole s t
-    → Named freeOf addressOf (peerNamed s) t l₁
-    → Moved (peerNamed s) l₁ l₂ to from
+    → Named freeOf addressOf (peerNamed s t) t l₁
+    → Moved (peerNamed s t) l₁ l₂ to from
     → SameOutcome (happens s) t l₁ l₂ to

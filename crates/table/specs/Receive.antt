@@ -8,13 +8,13 @@ use Rattle.octets.specs.Pick.{pick}
 use Rattle.octets.specs.Frame.{longest}
 use Rattle.octets.specs.declared.class.FrameClass.{FrameClass}
 use Rattle.octets.specs.declared.heard.Heard.{Heard}
-use Rattle.peer.specs.Turn.{admit, discard}
+use Rattle.peer.specs.Turn.{admit, discard, towardsOf}
 use Rattle.peer.specs.Authentication.{fullOf}
 use Rattle.peer.specs.Hear.{hearOf}
 use Rattle.peer.specs.Settings.{roleAssociates}
 use Rattle.peer.specs.declared.settings.Settings.{Settings}
 use Rattle.peer.specs.declared.record.Record.{Record}
-use Rattle.table.specs.Places.{addressesOf, findOf}
+use Rattle.table.specs.Places.{addressesOf, findOf, seekOf}
 use Rattle.table.specs.Fit.{wellFormed}
 use Rattle.table.specs.Read.{readOf}
 use Rattle.table.specs.Answer.{verdictAnswer, settledOf, refusedOf}
@@ -23,12 +23,12 @@ use Rattle.table.specs.declared.rules.read.Reading.{Reading}
 use Rattle.table.specs.declared.rules.read.Reading.the-variants.{Refused, Discarded, Admitted, From}
 use Rattle.table.specs.declared.rules.answer.Met.{Met}
 
--- 6. to 8., with the table's addresses: the peer's turn; of an authentication that needs a record where no place is free, "reply status 17".
+-- 6. to 8., with the table's addresses: the peer's turn, and its reply to Address 2 (02, K11: "Replies go to the frame's Address 2"); of an authentication that needs a record where no place is free, "reply status 17".
 unfoldable pub heardFrom : Settings → List Record → List ℕ → ℕ → Bool → FrameClass → Heard → Met
 heardFrom s t ads peer group k h =
-    let at = findOf ads peer in
+    let at = seekOf t ads peer in
     let p = peerOf t at peer in
-    turnIn t at (findOf ads 0) (hearOf s p k group h) (fullOf s p)
+    turnIn t at (findOf ads 0) (towardsOf peer (hearOf s p k group h)) (towardsOf peer (fullOf s p))
 
 abbrev pub heardAt : Settings → List Record → List ℕ → Reading → Met
 heardAt s t ads (Refused n) = refusedOf t n

@@ -1,10 +1,11 @@
 -- A peer's turn in the table: "A peer without a record counts as State 1. New records take the lowest free place."
 -- Assumes nothing.
 use Prim.Native.Nat.{ℕ, _+_}
-use mathlib.Core.Bool.{Bool, not}
+use mathlib.Core.Bool.{Bool, not, _||_}
 use mathlib.Core.List.{List, map}
 use lib.Dec.{ltb, eqb}
 use lib.ListN.{getD, set}
+use Rattle.octets.specs.Links.{noLinks}
 use Rattle.octets.specs.Pick.{pick}
 use Rattle.peer.specs.Record.{freshOf, freeOf, underWay}
 use Rattle.peer.specs.Association.{partedOf}
@@ -50,9 +51,9 @@ seatedOf t i turn =
 unfoldable pub strangerOf : List Record → Turn → Met
 strangerOf t turn = record { table = t; answer = turnAnswer turn 0; reply = turn .reply }
 
--- A record is made for an authentication asked (AP) or sent (station), the only turns that leave a stranger with an exchange.
+-- A record is made for an authentication asked or sent, the only turns that leave a stranger with an exchange, and for links named (02, K11).
 unfoldable pub startsOf : Turn → Bool
-startsOf turn = not (eqb (underWay (turn .peer .exchange)) 0)
+startsOf turn = not (eqb (underWay (turn .peer .exchange)) 0) || not (noLinks (turn .peer .links))
 
 unfoldable pub newcomerOf : List Record → Found → Turn → Turn → Met
 newcomerOf t free turn full =

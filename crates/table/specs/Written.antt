@@ -18,6 +18,7 @@ use Rattle.peer.specs.declared.reply.Reply.the-variants.{Silent, Send}
 use Rattle.table.specs.Refusals.{firstOf}
 use Rattle.table.specs.Receive.{receivedOf}
 use Rattle.table.specs.Ask.{askedOf}
+use Rattle.table.specs.Link.{linkedOf}
 use Rattle.table.specs.Pass.{passRefusals, reportsOf}
 use Rattle.table.specs.declared.rules.event.Event.{Event}
 use Rattle.table.specs.declared.rules.event.Event.the-variants as event
@@ -31,12 +32,14 @@ replyBytes (Send f) = bytesOf f
 abbrev pub stepBytes : Settings → List Record → Event → List ℕ → ℕ → List ℕ
 stepBytes s t event.Frame xs n = replyBytes (receivedOf s t xs n .reply)
 stepBytes s t (event.Ask q a c) xs n = replyBytes (askedOf s t q a c n .reply)
+stepBytes s t event.Links xs n = replyBytes (linkedOf s t xs n .reply)
 stepBytes s t (event.Clock d) xs n = pick (eqb (firstOf (passRefusals s t d n)) 0) (reportsOf s d 0 t) []
 
 -- 02, K5: "1 now below 37 bytes but for the clock"; "(256 for a clock step)"
 abbrev pub mostOf : Event → ℕ
 mostOf event.Frame = longest
 mostOf (event.Ask q a c) = longest
+mostOf event.Links = longest
 mostOf (event.Clock d) = 256
 
 -- The buffer k is l with the octets vs at its front, w is their number and at most so many, and the others are l's.

@@ -1,7 +1,10 @@
 // The table held as the octets of a host, and the calls that C sees.
+pub mod apart;
 pub mod boundary;
 pub mod calls;
+pub mod link;
 pub mod rows;
+pub mod seek;
 pub mod settings;
 pub mod standing;
 pub mod survey;

@@ -1,8 +1,9 @@
 // The table held as thirty-two records: by value, and lent as a slice.
+pub mod apart;
 pub mod ask;
-pub mod distinct;
 pub mod fit;
 pub mod lent;
+pub mod link;
 pub mod pass;
 pub mod places;
 pub mod receive;

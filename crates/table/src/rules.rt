@@ -1,7 +1,9 @@
 // The rules, for a table held in any way: what an event changes stands apart from the table.
 pub mod answer;
 pub mod ask;
+pub mod distinct;
 pub mod event;
+pub mod link;
 pub mod others;
 pub mod pass;
 pub mod read;

@@ -57,6 +57,7 @@ ill-refused s t e fs n w h = no e (sym (refusal-first s t e fs n) ∙ h)
     no : (e : Event) → firstOf (refusalsOf s t e fs n) ≡ 0 → ⊥
     no event.Frame h = early (ltb n longest) _ w h
     no (event.Ask q a c) h = early (ltb n longest) _ w h
+    no event.Links h = early (ltb n longest) _ w h
     no (event.Clock d) h = early (ltb n 256) _ w h
 
 -- what the step leaves goes to octets and back, and its octets are a table
@@ -182,11 +183,13 @@ call-said ss xs c k z w =
     low : (e : Event) {n : ℕ} → n ≤ mostOf e → n < 2 ^ 16
     low event.Frame h = omega (arith, h)
     low (event.Ask q a c) h = omega (arith, h)
+    low event.Links h = omega (arith, h)
     low (event.Clock d) h = omega (arith, h)
 
--- What the theorems ask for is met: the table that a host starts with, and the frame and the primitive of a first authentication.
+-- What the theorems ask for is met: the table that a host starts with, a device with two links, and the frame and the primitive of its first
+-- authentication.
 empty : List ℕ
-empty = replicate 768 0
+empty = replicate 1536 0
 
 -- an access point in octets: role 1, address 02:00:00:00:00:01, no RSNA, timeouts of 100 TU
 pub access-point : List ℕ
@@ -198,10 +201,11 @@ example-settings = refl
 
 example-calls : List Call
 example-calls =
-    record { event = event.Frame; frame = authenticationRequest; out = replicate 256 0; room = replicate 24 0 }
+    record { event = event.Links; frame = octets 6 them ++ (2 ∷ octets 6 6 ++ octets 6 8); out = replicate 256 0; room = replicate 24 0 }
+    ∷ record { event = event.Frame; frame = authenticationRequest; out = replicate 256 0; room = replicate 24 0 }
     ∷ record { event = event.Ask 2 them 0; frame = []; out = replicate 256 0; room = replicate 24 0 }
     ∷ []
 
 example-row : InRow access-point empty example-calls
-unfolding isTable numberedAt rowNumbered queryNumbered rowAt allTails empty example-calls
+unfolding isTable numberedAt rowNumbered queryNumbered rowAt octets allTails empty example-calls
 example-row = calls-in-a-row access-point empty example-calls refl refl refl

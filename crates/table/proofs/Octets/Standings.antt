@@ -8,15 +8,17 @@ use native.Mathlib.Omega.{arith}
 use lib.Dec.{eqb, leb, ltb}
 use borrow.Author.Tests.{le-leb, lt-leb, ne-eqb, eqb-true, leb-true}
 use Rattle.octets.specs.Address.{validOf}
+use Rattle.octets.specs.Links.{noLinks, unlinked}
 use Rattle.octets.specs.Row.{noRow}
 use Rattle.octets.specs.declared.row.Row.{Row}
 use Rattle.octets.proofs.Branch.{by-bool}
+use Rattle.octets.proofs.LinkTrip.{unlinked-of}
 use Rattle.octets.specs.Pick.{pick}
 use Rattle.peer.proofs.Fits.{both, clash, fits-of, wrong}
-use Rattle.peer.specs.Fit.{askedFits, awaitingFits, exchangeFits, highestState, holdFits, queryAllowed, queryFits, recordFits, sentFits, stands}
+use Rattle.peer.specs.Fit.{askedFits, awaitingFits, exchangeFits, highestState, holdFits, linksFit, queryAllowed, queryFits, recordFits, sentFits, stands}
 use Rattle.peer.proofs.QueryFits.{number-back}
 use Rattle.peer.specs.Query.{queryLeft, queryNumber, queryOf}
-use Rattle.peer.specs.Record.{associates, exchangeOf, isFree, underWay}
+use Rattle.peer.specs.Record.{associates, exchangeOf, isFree, linkedOf, underWay}
 use Rattle.peer.specs.Settings.{roleAnswers, roleAsks, roleAssociates, timeFits}
 use Rattle.peer.specs.declared.settings.Settings.{Settings}
 use Rattle.table.proofs.Passes.Loops.{and-false, and-true}
@@ -119,7 +121,9 @@ free-row r n h =
     let g = both (eqb (queryNumber (queryOf (r .query) (r .remaining))) 0) _ (f .1) in
     let none : r .query ≡ 0 = sym (back .0) ∙ eqb-true _ 0 (g .0) in
     let over : r .remaining ≡ 0 = sym (back .1) ∙ none-left (r .query) (r .remaining) none in
-    let e : eqb (r .exchange) 0 ≡ true = sym (idle (r .exchange) (leb-true (r .exchange) 9 (q .1))) ∙ g .1 in
+    let l = both (noLinks (r .links)) _ (g .1) in
+    let bare = unlinked-of (r .links) (l .0) in
+    let e : eqb (r .exchange) 0 ≡ true = sym (idle (r .exchange) (leb-true (r .exchange) 9 (q .1))) ∙ l .1 in
     λ i. record {
       address = eqb-true (r .address) 0 (a .0) i;
       hold = eqb-true (r .hold) 0 (d .0) i;
@@ -129,6 +133,7 @@ free-row r n h =
       identifier = eqb-true (r .identifier) 0 (f .0) i;
       remaining = over i;
       query = none i;
+      links = bare i;
     }
 
 -- Without a (re)association; what does not fit has none.
@@ -140,12 +145,12 @@ pub no-standing : (x : Standing) → x ≡ record { fit = false; associating = f
 no-standing x q b z e = alone-standing x false q b z e wrong
 
 -- A query that does not stand, where it does not: by its numbers, or by role, state and time.
-pub query-unfit : (s : Settings) (r : Row) → (queryNumbered (r .query) (r .remaining) && queryFits s (r .state) (queryOf (r .query) (r .remaining))) ≡ false → (rowNumbered r && recordFits s (recordOf r)) ≡ false
-unfolding rowNumbered recordOf
-query-unfit s r h = by-bool (rowNumbered r && recordFits s (recordOf r))
+pub query-unfit : (s : Settings) (r : Row) → (queryNumbered (r .query) (r .remaining) && queryFits s (r .state) (queryOf (r .query) (r .remaining))) ≡ false → (rowNumbered r && recordFits s (linkedOf (recordOf r) unlinked)) ≡ false
+unfolding rowNumbered recordOf linkedOf
+query-unfit s r h = by-bool (rowNumbered r && recordFits s (linkedOf (recordOf r) unlinked))
     (λ t.
     let a = both (rowNumbered r) _ t in
-    clash (rw (both (queryNumbered (r .query) (r .remaining)) _ (a .0) .0) (fits-of s (recordOf r) (a .1) .queries)) h)
+    clash (rw (both (queryNumbered (r .query) (r .remaining)) _ (a .0) .0) (fits-of s (linkedOf (recordOf r) unlinked) (a .1) .queries)) h)
     (λ f. f)
 
 query-allowed : (s : Settings) (r : Row) → r .identifier ≤ 65535 → queryFits s (r .state) (queryOf (r .query) (r .remaining)) ≡ true → queryAllowed s (recordOf r) ≡ true
@@ -157,8 +162,8 @@ pub by-exchange : (s : Settings) (r : Row) (x : Standing) → leb 1 (r .state) �
     → holdFits (s .role) (r .hold) ≡ true → r .identifier ≤ 65535
     → (queryNumbered (r .query) (r .remaining) && queryFits s (r .state) (queryOf (r .query) (r .remaining))) ≡ true
     → (x .fit ≡ (leb (r .exchange) 9 && exchangeFits (exchangeOf (r .exchange)) (s .role) (r .state) (r .left))) × (x .fit ≡ true → x .associating ≡ leb 2 (underWay (exchangeOf (r .exchange))))
-    → (x .fit ≡ (rowNumbered r && recordFits s (recordOf r))) × (x .fit ≡ true → x .associating ≡ associates (recordOf r))
-unfolding recordFits recordOf associates rowNumbered
+    → (x .fit ≡ (rowNumbered r && recordFits s (linkedOf (recordOf r) unlinked))) × (x .fit ≡ true → x .associating ≡ associates (recordOf r))
+unfolding recordFits linksFit noLinks linkedOf recordOf queryAllowed associates rowNumbered
 by-exchange s r x low high own ok hold id query h =
     let q = both (queryNumbered (r .query) (r .remaining)) _ query in
     (rw (q .0, query-allowed s r id (q .1), low, high, own, ok, hold, and-true (exchangeFits (exchangeOf (r .exchange)) (s .role) (r .state) (r .left))) (h .0), h .1)

@@ -14,13 +14,14 @@ use Rattle.octets.specs.Element.{brokenOf, isResponse, walk}
 use Rattle.octets.specs.Heard.{authenticationOf, responseOf, heardOf}
 use Rattle.octets.specs.Shape.{leastManagement, isBare, leastOf, shapeOf}
 use Rattle.octets.specs.Frame.{capabilityOf, aidField, headOf, bodyOf, bytesOf, writtenOf, lengthOf}
+use Rattle.octets.specs.Links.{noLinks}
 use Rattle.peer.specs.Settings.{networkFits, queryTimesFit, roleAnswers, roleAsks, roleAssociates, settingsFit, timeFits}
 use Rattle.peer.specs.Query.{queryIn}
-use Rattle.peer.specs.Record.{isJoined, associates, freeOf, freshOf, isFree, changedOf}
-use Rattle.peer.specs.Fit.{stands, askedFits, awaitingFits, sentFits, highestState, holdFits, queryAllowed, recordFits, placeFits}
+use Rattle.peer.specs.Record.{isJoined, associates, freeOf, freshOf, isFree, changedOf, spokenAt}
+use Rattle.peer.specs.Fit.{stands, askedFits, awaitingFits, sentFits, highestState, holdFits, queryAllowed, recordFits, placeFits, linksFit}
 use Rattle.peer.specs.Moves.{dsOf}
 use Rattle.peer.specs.Reply.{networkAddress, sendOf, authenticationTo, deauthenticationTo, disassociationTo, requestTo, responseTo}
-use Rattle.peer.specs.Turn.{turnOf, endedOf, begunOf, repliedOf, stillOf}
+use Rattle.peer.specs.Turn.{turnOf, endedOf, begunOf, repliedOf, stillOf, towardsOf}
 use Rattle.peer.specs.Filter.{barredOf}
 use Rattle.peer.specs.Authentication.{requestedOf, authenticationAsked, answeredMove, authenticationAnswered, authenticationHeard}
 use Rattle.peer.specs.Farewell.{deauthenticationHeard}
@@ -29,7 +30,7 @@ use Rattle.peer.specs.Hear.{hearOf}
 use Rattle.peer.specs.Refuse.{codeAllowed, roleAllowed, joinConflict, conflictOf, joinedElsewhere, mismatchOf, heldOf}
 use Rattle.peer.specs.Ask.{startedOf, answerOf, associateOf, awaitedOf, respondOf, reportedMove, reportOf, askOf}
 use Rattle.peer.specs.Tick.{timedOf, freedOf, tickOf}
-use Rattle.table.specs.Places.{firstFrom, allTails, countOf}
+use Rattle.table.specs.Places.{firstFrom, allTails, countOf, findLinkOf, linkAddressesOf, seekOf, someOf}
 use Rattle.table.specs.Fit.{aloneIn, crowdOf, sparseOf, wellFormed}
 use Rattle.table.specs.Others.{associatedOf, othersOf}
 use Rattle.table.specs.Answer.{settledOf, refusedOf, steppedOf}
@@ -48,14 +49,14 @@ use Rattle.table.proofs.Order.Allowed.{rearranged, allowed, moved, allK
 use Rattle.table.proofs.Order.DemandThree.{demand-3}
 
 -- another peer, 02:00:00:00:00:0b
-abbrev other : ℕ
+abbrev pub other : ℕ
 other = 0x0b0000000002
 
-abbrev otherRequest : List ℕ
+abbrev pub otherRequest : List ℕ
 otherRequest = frameOf 0xb0 0 ours (0x02 ∷ 0 ∷ 0 ∷ 0 ∷ 0 ∷ 0x0b ∷ []) ours (0 ∷ 0 ∷ 1 ∷ 0 ∷ 0 ∷ 0 ∷ [])
 
 -- each event has a buffer of its own, of 37 octets
-abbrev ev : Coming → Handed
+abbrev pub ev : Coming → Handed
 ev c = record { coming = c; out = replicate 37 9 }
 
 -- a frame too short to be read
@@ -76,7 +77,7 @@ abbrev pub back : List ℕ
 back = 3 ∷ 2 ∷ 0 ∷ 4 ∷ 1 ∷ 5 ∷ []
 
 abbrev pub l₂ : List Handed
-l₂ = rearranged stray (peerNamed asAp) l₁ there back
+l₂ = rearranged stray (peerNamed asAp both) l₁ there back
 
 l₂-is : l₂ ≡ stray ∷ ev (frame otherRequest) ∷ ev (frame authenticationRequest) ∷ ev (primitive 2 other 1) ∷ ev (primitive 2 them 0) ∷ ev (frame dataFrame) ∷ []
 l₂-is = refl
@@ -92,8 +93,8 @@ ends s t l = map (λ (i : ℕ). (getD (end (happens s) t l) i freeOf .state, get
 pub record AtWork : Type 0 where
   -- the conditions of demand 3 hold of the six events
   pub well : wellFormed asAp both ≡ true
-  pub known : T (allKnown freeOf addressOf (peerNamed asAp) both l₁)
-  pub kept : T (allowed stray (peerNamed asAp) l₁ there back)
+  pub known : T (allKnown freeOf addressOf (peerNamed asAp both) both l₁)
+  pub kept : T (allowed stray (peerNamed asAp both) l₁ there back)
   -- the answers are not all alike, and each goes where its event went
   first : map shown (answers (happens asAp) both l₁)
       ≡ (0 ∷ 1 ∷ 1 ∷ 0 ∷ 1 ∷ 9 ∷ []) ∷ (0 ∷ 0 ∷ 0 ∷ 30 ∷ 2 ∷ 0xb0 ∷ []) ∷ (0 ∷ 1 ∷ 1 ∷ 0 ∷ 1 ∷ 9 ∷ []) ∷ (3 ∷ 0 ∷ 0 ∷ 0 ∷ 0 ∷ 9 ∷ []) ∷ (0 ∷ 0 ∷ 0 ∷ 30 ∷ 1 ∷ 0xb0 ∷ []) ∷ (0 ∷ 2 ∷ 0 ∷ 26 ∷ 2 ∷ 0xa0 ∷ []) ∷ []
@@ -120,6 +121,7 @@ unfolding validOf groupOf octets classIn classOf isPublicAction walk isResponse 
     allTails countOf aloneIn crowdOf sparseOf wellFormed associatedOf othersOf settledOf refusedOf steppedOf seatedOf startsOf newcomerOf
     firstOf unless forUs readFrom readFull readOf heardFrom receivedOf mayAsk noPlace askedAt askedOf reportFor reportsOf clockedOf passedOf
     passedIn tableOf deauthenticationTo happens peerNamed
+    noLinks linksFit linkAddressesOf someOf findLinkOf seekOf towardsOf spokenAt
 at-work =
     record {
       well = refl;
@@ -141,8 +143,8 @@ pub same-six : SameOutcome (happens asAp) both l₁ l₂ (λ k. getD there k 0)
 unfolding tableOf roleAnswers
 same-six =
     demand-3 asAp both l₁ l₂ (λ k. getD there k 0) (λ k. getD back k 0) refl (at-work .well, refl)
-    (named-all freeOf addressOf (peerNamed asAp) both l₁ (at-work .known))
-    (moved stray (peerNamed asAp) l₁ there back (at-work .kept))
+    (named-all freeOf addressOf (peerNamed asAp both) both l₁ (at-work .known))
+    (moved stray (peerNamed asAp both) l₁ there back (at-work .kept))
 
 -- ---- 02, K10: "Demand 3 holds for role 3 too." Two scanners in an ad hoc network, 02:00:00:00:00:0c: one asks us, the other is asked by us.
 
@@ -163,15 +165,15 @@ abbrev pub homeward : List ℕ
 homeward = 1 ∷ 2 ∷ 4 ∷ 0 ∷ 3 ∷ 5 ∷ []
 
 abbrev pub m₂ : List Handed
-m₂ = rearranged stray (peerNamed adHocPeer) m₁ onward homeward
+m₂ = rearranged stray (peerNamed adHocPeer both) m₁ onward homeward
 
 m₂-is : m₂ ≡ ev (primitive 1 other 0) ∷ stray ∷ ev (frame otherAnswer) ∷ ev (frame authenticationRequest) ∷ ev (primitive 2 them 0) ∷ ev (frame dataFrame) ∷ []
 m₂-is = refl
 
 pub record AdHocAtWork : Type 0 where
   pub well : wellFormed adHocPeer both ≡ true
-  pub known : T (allKnown freeOf addressOf (peerNamed adHocPeer) both m₁)
-  pub kept : T (allowed stray (peerNamed adHocPeer) m₁ onward homeward)
+  pub known : T (allKnown freeOf addressOf (peerNamed adHocPeer both) both m₁)
+  pub kept : T (allowed stray (peerNamed adHocPeer both) m₁ onward homeward)
   first : map shown (answers (happens adHocPeer) both m₁)
       ≡ (0 ∷ 1 ∷ 1 ∷ 0 ∷ 1 ∷ 9 ∷ []) ∷ (0 ∷ 0 ∷ 0 ∷ 30 ∷ 1 ∷ 0xb0 ∷ []) ∷ (3 ∷ 0 ∷ 0 ∷ 0 ∷ 0 ∷ 9 ∷ []) ∷ (0 ∷ 0 ∷ 0 ∷ 30 ∷ 2 ∷ 0xb0 ∷ []) ∷ (0 ∷ 1 ∷ 2 ∷ 0 ∷ 2 ∷ 9 ∷ []) ∷ (0 ∷ 2 ∷ 0 ∷ 0 ∷ 2 ∷ 9 ∷ []) ∷ []
   second : map shown (answers (happens adHocPeer) both m₂)
@@ -186,6 +188,7 @@ unfolding validOf groupOf octets classIn classOf isDirect isPublicAction isRespo
     barredOf requestedOf authenticationAsked answeredMove authenticationAnswered authenticationHeard hearOf codeAllowed roleAllowed conflictOf mismatchOf heldOf
     startedOf answerOf askOf firstFrom allTails aloneIn sparseOf wellFormed othersOf settledOf refusedOf steppedOf seatedOf firstOf unless forUs readFrom readFull
     readOf heardFrom receivedOf mayAsk noPlace askedAt askedOf tableOf happens peerNamed
+    noLinks linksFit linkAddressesOf someOf findLinkOf seekOf towardsOf spokenAt
 ad-hoc-at-work =
     record {
       well = refl;
@@ -201,5 +204,5 @@ pub same-six-ad-hoc : SameOutcome (happens adHocPeer) both m₁ m₂ (λ k. getD
 unfolding tableOf roleAnswers
 same-six-ad-hoc =
     demand-3 adHocPeer both m₁ m₂ (λ k. getD onward k 0) (λ k. getD homeward k 0) refl (ad-hoc-at-work .well, refl)
-    (named-all freeOf addressOf (peerNamed adHocPeer) both m₁ (ad-hoc-at-work .known))
-    (moved stray (peerNamed adHocPeer) m₁ onward homeward (ad-hoc-at-work .kept))
+    (named-all freeOf addressOf (peerNamed adHocPeer both) both m₁ (ad-hoc-at-work .known))
+    (moved stray (peerNamed adHocPeer both) m₁ onward homeward (ad-hoc-at-work .kept))

@@ -16,6 +16,7 @@ use Rattle.peer.proofs.Classes.{Classed, passes-classed}
 use Rattle.peer.proofs.Fits.{clash, fits-of, sent-asks}
 use Rattle.peer.proofs.Roles.{authentication-by, no-answers, request-by}
 use Rattle.octets.specs.Class.{classless}
+use Rattle.octets.specs.Links.{noLinks}
 use Rattle.octets.specs.Pick.{pick}
 use Rattle.octets.specs.declared.class.FrameClass.{FrameClass}
 use Rattle.octets.specs.declared.heard.Heard.{Heard}
@@ -42,7 +43,7 @@ use Rattle.peer.specs.declared.record.Exchange.the-variants.{None, Asked, Await
 use Rattle.peer.specs.declared.refuse.Others.{Others}
 use Rattle.peer.specs.declared.turn.Turn.{Turn}
 use Rattle.table.specs.Places.{firstFrom, allTails, allOf, addressesOf, findOf}
-use Rattle.table.specs.Fit.{apart, aloneIn, distinctOf, sparseOf, wellFormed}
+use Rattle.table.specs.Fit.{apart, aloneIn, distinctOf, wellFormed}
 use Rattle.table.specs.Order.{addressOf}
 use Rattle.table.specs.declared.rules.seat.Found.the-variants.{At}
 
@@ -78,17 +79,15 @@ find-at t i d h z =
 -- what well-formedness gives
 pub wf-settings : (s : Settings) (t : List Record) → wellFormed s t ≡ true → settingsFit s ≡ true
 unfolding wellFormed
-wf-settings s t w = and-left (settingsFit s) (allOf (placeFits s) t && (distinctOf (addressesOf t) && sparseOf s t)) w
-
-pub wf-distinct : (s : Settings) (t : List Record) → wellFormed s t ≡ true → distinctOf (addressesOf t) ≡ true
-unfolding wellFormed
-wf-distinct s t w =
-    and-left (distinctOf (addressesOf t)) (sparseOf s t) (and-right (allOf (placeFits s) t) (distinctOf (addressesOf t) && sparseOf s t) (and-right (settingsFit s) (allOf (placeFits s) t && (distinctOf (addressesOf t) && sparseOf s t)) w))
+wf-settings s t w = and-left (settingsFit s) _ w
 
 pub wf-fits : (s : Settings) (t : List Record) → wellFormed s t ≡ true → allOf (placeFits s) t ≡ true
 unfolding wellFormed
-wf-fits s t w =
-    and-left (allOf (placeFits s) t) (distinctOf (addressesOf t) && sparseOf s t) (and-right (settingsFit s) (allOf (placeFits s) t && (distinctOf (addressesOf t) && sparseOf s t)) w)
+wf-fits s t w = and-left (allOf (placeFits s) t) _ (and-right (settingsFit s) _ w)
+
+pub wf-distinct : (s : Settings) (t : List Record) → wellFormed s t ≡ true → distinctOf (addressesOf t) ≡ true
+unfolding wellFormed
+wf-distinct s t w = and-left (distinctOf (addressesOf t)) _ (and-right (allOf (placeFits s) t) _ (and-right (settingsFit s) _ w))
 
 -- no rule touches another record: of those who answer, an AP sends no request, and in an ad hoc network no response passes
 abbrev pub Alone : Turn → Type 0
@@ -112,10 +111,11 @@ module _ (s : Settings) (p : Record) (fit : settingsFit s ≡ true) (r : roleAns
       (λ f.
       rw (sent-free (p .exchange)
       (eqb-true (underWay (p .exchange)) 0
+      (and-right (noLinks (p .links)) _
       (and-right (eqb (queryNumber (p .query)) 0) _
       (and-right (eqb (p .identifier) 0) _
       (and-right (eqb (p .hold) 0) _
-      (and-right (eqb (p .left) 0) _ (and-right (eqb (p .state) 0) _ (and-right (eqb (p .address) 0) _ f))))))))
+      (and-right (eqb (p .left) 0) _ (and-right (eqb (p .state) 0) _ (and-right (eqb (p .address) 0) _ f)))))))))
       (no-kind k))
       (λ f. by-bool (isSent k (p .exchange))
       (λ q. clash r (no-answers s fit (sent-asks (p .exchange) k (s .role) (p .state) (p .left) (fits-of s p (rw f at w) .suits) q) on))

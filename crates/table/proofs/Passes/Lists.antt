@@ -113,7 +113,7 @@ first-none f (p ∷ ps) n e = by-bool (f p)
 
 -- ---- distinct addresses
 
-swap : (a b : ℕ) → eqb a b ≡ false → eqb b a ≡ false
+pub swap : (a b : ℕ) → eqb a b ≡ false → eqb b a ≡ false
 swap a b e = ne-eqb b a (λ (z : b ≡ a). eqb-false a b e (sym z))
 
 -- an address that is alone is so behind the first, and apart from it
@@ -150,6 +150,10 @@ module _ (w : Record → Bool) (g : Record → Record) (k : (p : Record) → w p
       (λ n. rw (eqb-true (g p .address) 0 n, swap a 0 z))
       (λ n. rw (k p (both (w p) _ h .0) n) (both (apart a (p .address)) _ e .0)))
       (apart-map a z ps (both (w p) _ h .1) (both (apart a (p .address)) _ e .1))
+
+  pub alone-map : (a : ℕ) (t : List Record) → allOf w t ≡ true → aloneIn a (addressesOf t) ≡ true → aloneIn a (addressesOf (map g t)) ≡ true
+  unfolding aloneIn
+  alone-map a t h e = by-bool (eqb a 0) (λ z. rw z) (λ z. rw z (apart-map a z t h (rw z at e)))
 
   pub distinct-map : (t : List Record) → allOf w t ≡ true → distinctOf (addressesOf t) ≡ true → distinctOf (addressesOf (map g t)) ≡ true
   unfolding allTails aloneIn

@@ -14,9 +14,9 @@ use Rattle.peer.specs.Settings.{roleAnswers, settingsFit}
 use Rattle.peer.specs.declared.settings.Settings.{Settings}
 use Rattle.peer.specs.declared.record.Record.{Record}
 use Rattle.octets.specs.Pick.{pick}
-use Rattle.table.specs.Places.{allOf, addressesOf}
+use Rattle.table.specs.Places.{allOf, addressesOf, linkAddressesOf}
 use Rattle.table.specs.Others.{associatedOf}
-use Rattle.table.specs.Fit.{crowdOf, distinctOf, sparseOf, wellFormed}
+use Rattle.table.specs.Fit.{crowdOf, distinctOf, linksApart, sparseOf, wellFormed}
 use Rattle.table.specs.declared.records.fit.View.{View}
 use Rattle.table.proofs.Passes.Loops.{all-end, all-step, left-end, left-step}
 use Rattle.table.proofs.Passes.Tallies.{Tallied, tallied-all, tallied-more, tallied-none}
@@ -26,7 +26,7 @@ abbrev pub Sees : Settings → List Record → View → Type 0
 Sees s t v = (v .fit ≡ allOf (placeFits s) t) × (v .crowd ≡ crowdOf t) × (v .associated ≡ associatedOf t) × (v .addresses ≡ addressesOf t)
 
 pub well-of : (s : Settings) (t : List Record) (v : View) → Sees s t v → (b : Bool)
-    → b ≡ (settingsFit s && (v .fit && (distinctOf (v .addresses) && (roleAnswers (s .role) || (leb (v .crowd .joined) 1 && leb (v .crowd .associating) 1))))) → b ≡ wellFormed s t
+    → b ≡ (settingsFit s && (v .fit && (distinctOf (v .addresses) && (linksApart (linkAddressesOf t) (v .addresses) && (roleAnswers (s .role) || (leb (v .crowd .joined) 1 && leb (v .crowd .associating) 1)))))) → b ≡ wellFormed s t
 unfolding wellFormed sparseOf
 well-of s t v h b e = e ∙ rw (h .0, h .1, h .3)
 

@@ -4,23 +4,26 @@ use Prim.Native.Nat.{ℕ}
 use mathlib.Core.Path.{_≡_, refl}
 use mathlib.Core.Bool.{Bool, true, false, not}
 use mathlib.Core.List.{List}
-use native.Mathlib.Omega.{arith}
-use lib.Dec.{eqb, ltb}
+use lib.Dec.{ltb}
 use lib.ListN.{getD}
 use lib.Seq.{set-getD}
+use Rattle.octets.specs.Links.{noLinks}
 use Rattle.octets.specs.Pick.{pick}
 use Rattle.octets.specs.Frame.{longest}
 use Rattle.octets.proofs.Branch.{pick-both}
 use Rattle.octets.specs.declared.class.FrameClass.{FrameClass}
 use Rattle.octets.specs.declared.heard.Heard.{Heard}
-use Rattle.peer.specs.Record.{freshOf, freeOf, underWay}
+use Rattle.peer.specs.Record.{freshOf, freeOf}
 use Rattle.peer.specs.Authentication.{fullOf}
 use Rattle.peer.specs.Hear.{hearOf}
+use Rattle.peer.proofs.Fits.{clash}
 use Rattle.peer.proofs.LawsOfUse.{discard-turn}
+use Rattle.peer.specs.Turn.{towardsOf}
 use Rattle.peer.specs.Settings.{roleAssociates}
 use Rattle.peer.specs.declared.settings.Settings.{Settings}
 use Rattle.peer.specs.declared.record.Record.{Record}
-use Rattle.table.specs.Places.{onFound, findOf, addressesOf}
+use Rattle.peer.specs.declared.turn.Turn.{Turn}
+use Rattle.table.specs.Places.{onFound, findOf, addressesOf, seekOf}
 use Rattle.table.specs.Fit.{wellFormed}
 use Rattle.table.specs.Answer.{settledOf, refusedOf}
 use Rattle.table.specs.Seat.{peerOf, seatedOf, strangerOf, startsOf, newcomerOf, turnIn}
@@ -36,31 +39,34 @@ Leaves : List Record → Met → Type 0
 Leaves t m = m .answer .verdict ≡ 2 → m .table ≡ t
 
 module _ (s : Settings) (t : List Record) (k : FrameClass) (g : Bool) (h : Heard) where
-  seated-leaves : (i : ℕ) → Leaves t (seatedOf t i (hearOf s (getD t i freeOf) k g h))
-  unfolding Leaves seatedOf
-  seated-leaves i v =
+  abbrev turn : ℕ → Record → Turn
+  turn a p = towardsOf a (hearOf s p k g h)
+
+  seated-leaves : (a i : ℕ) → Leaves t (seatedOf t i (turn a (getD t i freeOf)))
+  unfolding Leaves seatedOf towardsOf
+  seated-leaves a i v =
       let d = discard-turn s (getD t i freeOf) k g h v in
       rw (d .1, d .0) (set-getD t i freeOf)
 
-  newcomer-leaves : (free : Found) (a : ℕ) → Leaves t (newcomerOf t free (hearOf s (freshOf a) k g h) (fullOf s (freshOf a)))
-  unfolding Leaves newcomerOf strangerOf startsOf seatedOf freshOf
-  newcomer-leaves free a = either (not (eqb (underWay (hearOf s (freshOf a) k g h .peer .exchange)) 0)) refl free
+  newcomer-leaves : (free : Found) (a : ℕ) → Leaves t (newcomerOf t free (turn a (freshOf a)) (towardsOf a (fullOf s (freshOf a))))
+  unfolding Leaves newcomerOf strangerOf startsOf seatedOf freshOf towardsOf noLinks
+  newcomer-leaves free a = either (startsOf (turn a (freshOf a))) refl free
     where
-      quiet : hearOf s (freshOf a) k g h .verdict ≡ 2 → eqb (underWay (hearOf s (freshOf a) k g h .peer .exchange)) 0 ≡ true
+      quiet : hearOf s (freshOf a) k g h .verdict ≡ 2 → startsOf (turn a (freshOf a)) ≡ false
       quiet v = rw (discard-turn s (freshOf a) k g h v .0)
 
-      either : (b : Bool) → not (eqb (underWay (hearOf s (freshOf a) k g h .peer .exchange)) 0) ≡ b → (f : Found) → Leaves t (pick b (onFound f (strangerOf t (fullOf s (freshOf a))) (λ i. seatedOf t i (hearOf s (freshOf a) k g h))) (strangerOf t (hearOf s (freshOf a) k g h)))
+      either : (b : Bool) → startsOf (turn a (freshOf a)) ≡ b → (f : Found) → Leaves t (pick b (onFound f (strangerOf t (towardsOf a (fullOf s (freshOf a)))) (λ i. seatedOf t i (turn a (freshOf a)))) (strangerOf t (turn a (freshOf a))))
       either true e Nothing v = refl
-      either true e (At i) v = let q = quiet v in let z : _≡_ {A = ℕ} 0 1 = cc in absurd (omega arith)
+      either true e (At i) v = clash e (quiet v)
       either false e f v = refl
 
   from-leaves : (a : ℕ) → Leaves t (heardFrom s t (addressesOf t) a g k h)
   unfolding heardFrom
-  from-leaves a = found (findOf (addressesOf t) a)
+  from-leaves a = found (seekOf t (addressesOf t) a)
     where
-      found : (at : Found) → Leaves t (turnIn t at (findOf (addressesOf t) 0) (hearOf s (peerOf t at a) k g h) (fullOf s (peerOf t at a)))
+      found : (at : Found) → Leaves t (turnIn t at (findOf (addressesOf t) 0) (turn a (peerOf t at a)) (towardsOf a (fullOf s (peerOf t at a))))
       found Nothing = newcomer-leaves (findOf (addressesOf t) 0) a
-      found (At i) = seated-leaves i
+      found (At i) = seated-leaves a i
 
 read-leaves : (s : Settings) (t : List Record) (r : Reading) → Leaves t (heardAt s t (addressesOf t) r)
 unfolding Leaves refusedOf settledOf

@@ -10,15 +10,16 @@ use lib.Dec.{eqb}
 use lib.ListN.{getD}
 use lib.Seq.{set-getD}
 use Rattle.octets.specs.Address.{validOf}
+use Rattle.octets.specs.Links.{noLinks, unlinked}
 use Rattle.octets.proofs.Branch.{pick-both}
 use Rattle.octets.specs.declared.heard.Kind.the-variants.{Reassociation}
 use Rattle.peer.specs.Ask.{askOf, declinedMove, declinedOf, respondOf}
-use Rattle.peer.specs.Fit.{askedFits, highestState, holdFits, placeFits, queryAllowed, recordFits, stands}
+use Rattle.peer.specs.Fit.{askedFits, highestState, holdFits, linksFit, placeFits, queryAllowed, recordFits, stands}
 use Rattle.peer.specs.Moves.{dsNone}
-use Rattle.peer.specs.Record.{changedOf, freeOf, freshOf, isFree, isJoined}
+use Rattle.peer.specs.Record.{changedOf, freeOf, freshOf, isFree, isJoined, spokenAt}
 use Rattle.peer.specs.Refuse.{codeAllowed, conflictOf, heldOf, mismatchOf, one, roleAllowed}
 use Rattle.peer.specs.Settings.{networkFits, queryTimesFit, roleAnswers, roleAsks, roleAssociates, settingsFit, timeFits}
-use Rattle.peer.specs.Turn.{endedOf, turnOf}
+use Rattle.peer.specs.Turn.{endedOf, towardsOf, turnOf}
 use Rattle.peer.proofs.Editions.{declines, rejects, second-joined, second-protected, second-silent}
 use Rattle.peer.specs.declared.settings.Settings.{Settings}
 use Rattle.peer.specs.declared.record.Exchange.the-variants.{Asked}
@@ -29,7 +30,7 @@ use Rattle.peer.specs.declared.turn.Turn.{Turn}
 use Rattle.table.specs.Answer.{refusedOf, settledOf, steppedOf}
 use Rattle.table.specs.Fit.{aloneIn, sparseOf, wellFormed}
 use Rattle.table.specs.Others.{othersOf}
-use Rattle.table.specs.Places.{addressesOf, allTails, findOf, firstFrom}
+use Rattle.table.specs.Places.{addressesOf, allTails, findLinkOf, findOf, firstFrom, linkAddressesOf, someOf}
 use Rattle.table.specs.Ask.{askedAt, askedOf, mayAsk, noPlace}
 use Rattle.table.specs.Refusals.{firstOf, unless}
 use Rattle.table.specs.Seat.{aidOf, newcomerOf, peerOf, seatedOf, startsOf, strangerOf, turnIn}
@@ -48,12 +49,12 @@ stateOf p = p .state
 module _ (s : Settings) (t : List Record) (q a c : ℕ) (r : rejects q c ≡ true) where
   -- the turn of a peer found at a place, or of one without a record
   abbrev turn : Found → Turn
-  turn at = askOf s (aidOf at) (peerOf t at a) (othersOf s t) q c
+  turn at = towardsOf (spokenAt (peerOf t at a)) (askOf s (aidOf at) (peerOf t at a) (othersOf s t) q c)
 
   -- What a rejection leaves of its peer's record it leaves of the whole table, place for place; a peer without a record gets none.
   module _ {A : Type 0} (f : Record → A) (kept : (p : Record) (aid : ℕ) (o : Others) → f (askOf s aid p o q c .peer) ≡ f p) where
     turn-kept : (at free : Found) → map f (turnIn t at free (turn at) (turn at) .table) ≡ map f t
-    unfolding newcomerOf strangerOf seatedOf startsOf declinedOf turnOf endedOf changedOf
+    unfolding newcomerOf strangerOf seatedOf startsOf declinedOf turnOf endedOf changedOf freshOf noLinks towardsOf
     turn-kept Nothing free = rw (declines s 0 (freshOf a) (othersOf s t) q c r)
     turn-kept (At i) free =
         let alone : turn (At i) .sole ≡ false = rw (declines s (aidOf (At i)) (getD t i freeOf) (othersOf s t) q c r) in
@@ -94,7 +95,7 @@ module _ (s : Settings) (t : List Record) (q a c : ℕ) (r : rejects q c ≡ tru
 
   -- and the distribution system hears nothing.
   pub no-word : s .edition ≡ 2 → (xs : List ℕ) (n : ℕ) → stepOf s t (event.Ask q a c) xs n .answer .ds ≡ dsNone
-  unfolding steppedOf askedOf askedAt
+  unfolding steppedOf askedOf askedAt towardsOf
   no-word e xs n =
       let at = findOf (addressesOf t) a in
       unless-word _ _ (unless-word _ _ (turn-word at (findOf (addressesOf t) 0) (second-silent s (aidOf at) (peerOf t at a) (othersOf s t) q c r e)))
@@ -106,7 +107,7 @@ site role edition protection =
     record { own = 2; network = 0; authentication = 100; association = 100; role = role; rsna = 0; edition = edition; protection = protection; retry = 201; maximum = 1000 }
 
 abbrev asking : Record
-asking = record { address = 4; state = 4; exchange = Asked Reassociation; left = 0; hold = 0; query = query.None; identifier = 0 }
+asking = record { address = 4; state = 4; exchange = Asked Reassociation; left = 0; hold = 0; query = query.None; identifier = 0; links = unlinked }
 
 four-kept : map stateOf (stepOf (site 1 2 1) (asking ∷ []) (event.Ask 8 4 1) [] 37 .table) ≡ 4 ∷ []
 four-kept = states-kept (site 1 2 1) (asking ∷ []) 8 4 1 refl refl refl [] 37
@@ -120,4 +121,5 @@ not-refused :
     (stepOf (site 1 2 0) (asking ∷ []) (event.Ask 8 4 1) [] 37 .answer .refusal ≡ 0) × (stepOf (site 1 2 0) (asking ∷ []) (event.Ask 8 4 1) [] 37 .answer .state ≡ 3)
 unfolding steppedOf askedOf unless firstOf wellFormed settingsFit queryTimesFit networkFits roleAnswers roleAsks roleAssociates timeFits validOf allTails placeFits isFree recordFits highestState queryAllowed holdFits askedFits stands aloneIn sparseOf
     askedAt mayAsk codeAllowed roleAllowed conflictOf mismatchOf heldOf noPlace firstFrom askOf respondOf declinedOf declinedMove turnOf endedOf changedOf seatedOf
+    noLinks linksFit linkAddressesOf findLinkOf someOf towardsOf spokenAt
 not-refused = (refl, refl)

@@ -13,9 +13,10 @@ use borrow.Author.Tests.{eqb-true, not-true}
 use Rattle.octets.proofs.Branch.{by-bool}
 use Rattle.octets.specs.declared.class.FrameClass.{FrameClass}
 use Rattle.octets.specs.declared.heard.Heard.{Heard}
-use Rattle.peer.specs.Fit.{placeFits, queryAllowed, queryFits, queryStands, recordFits, runningFits}
+use Rattle.peer.specs.Fit.{linksFit, placeFits, queryAllowed, queryFits, queryStands, recordFits, runningFits}
 use Rattle.peer.specs.Refuse.{one, roleAllowed}
 use Rattle.peer.specs.Hear.{hearOf}
+use Rattle.peer.specs.Turn.{linkingOf, turnOf}
 use Rattle.peer.specs.Settings.{ap, networkFits, queryTimesFit, roleAsks, roleAssociates, settingsFit}
 use Rattle.peer.proofs.Editions.{rejects}
 use Rattle.peer.proofs.EditionsAlike.{asks-alike, full-alike, hears-alike, inEdition, mayBeForged, station-hears-alike, ticks-alike}
@@ -26,10 +27,11 @@ use Rattle.peer.specs.declared.query.Query.the-variants as query
 use Rattle.peer.specs.declared.record.Record.{Record}
 use Rattle.table.specs.Fit.{sparseOf, wellFormed}
 use Rattle.table.specs.Others.{othersOf}
-use Rattle.table.specs.Places.{addressesOf, allOf, allTails, findOf}
+use Rattle.table.specs.Places.{addressesOf, allOf, allTails, findOf, seekOf}
 use Rattle.table.specs.Read.{readOf}
 use Rattle.table.specs.Receive.{heardAt, heardFrom, receivedOf}
 use Rattle.table.specs.Ask.{askedAt, askedOf, mayAsk}
+use Rattle.table.specs.Link.{linkAllowed, linkedAt, linkedOf, mayLink}
 use Rattle.table.specs.Pass.{afterOf, clockedOf, passedIn, passedOf, reportsOf}
 use Rattle.table.specs.Refusals.{firstOf, unless}
 use Rattle.table.specs.Seat.{aidOf, peerOf}
@@ -46,12 +48,13 @@ abbrev pub forgedIn : List Record → Reading → Bool
 forgedIn t (Refused n) = false
 forgedIn t Discarded = false
 forgedIn t Admitted = false
-forgedIn t (From peer group k h) = mayBeForged (peerOf t (findOf (addressesOf t) peer) peer) h
+forgedIn t (From peer group k h) = mayBeForged (peerOf t (seekOf t (addressesOf t) peer) peer) h
 
 -- Such a frame; or, "when an AP answers anything but success", the event of primitive 7 or 8 with a status other than 0.
 abbrev pub editionAsked : Settings → List Record → Event → List ℕ → Bool
 editionAsked s t event.Frame xs = forgedIn t (readOf (s .own) (roleAssociates (s .role)) xs)
 editionAsked s t (event.Ask q a c) xs = rejects q c
+editionAsked s t event.Links xs = false
 editionAsked s t (event.Clock d) xs = false
 
 -- who asks is no AP
@@ -84,7 +87,7 @@ module _ (s : Settings) (edition protection : ℕ) (fit : settingsFit (inEdition
   query-alike state query.TimedOut = refl
 
   place-alike : (p : Record) → placeFits other p ≡ placeFits s p
-  unfolding inEdition placeFits recordFits queryAllowed
+  unfolding inEdition placeFits recordFits queryAllowed linksFit
   place-alike p = rw (query-alike (p .state) (p .query))
 
   places-alike : (t : List Record) → allOf (placeFits other) t ≡ allOf (placeFits s) t
@@ -99,17 +102,17 @@ module _ (s : Settings) (edition protection : ℕ) (fit : settingsFit (inEdition
   -- where a peer's turn is the same, so is what the frame is met with
   turn-alike :
       (t : List Record) (peer : ℕ) (group : Bool) (k : FrameClass) (h : Heard)
-      → hearOf other (peerOf t (findOf (addressesOf t) peer) peer) k group h ≡ hearOf s (peerOf t (findOf (addressesOf t) peer) peer) k group h
+      → hearOf other (peerOf t (seekOf t (addressesOf t) peer) peer) k group h ≡ hearOf s (peerOf t (seekOf t (addressesOf t) peer) peer) k group h
       → heardAt other t (addressesOf t) (From peer group k h) ≡ heardAt s t (addressesOf t) (From peer group k h)
   unfolding heardFrom
-  turn-alike t peer group k h e = rw (e, full-alike s edition protection (peerOf t (findOf (addressesOf t) peer) peer))
+  turn-alike t peer group k h e = rw (e, full-alike s edition protection (peerOf t (seekOf t (addressesOf t) peer) peer))
 
   read-alike : (t : List Record) (r : Reading) → forgedIn t r ≡ false → heardAt other t (addressesOf t) r ≡ heardAt s t (addressesOf t) r
   read-alike t (Refused n) e = refl
   read-alike t Discarded e = refl
   read-alike t Admitted e = refl
   read-alike t (From peer group k h) e =
-      turn-alike t peer group k h (hears-alike s edition protection (peerOf t (findOf (addressesOf t) peer) peer) k group h e)
+      turn-alike t peer group k h (hears-alike s edition protection (peerOf t (seekOf t (addressesOf t) peer) peer) k group h e)
 
   received-alike :
       (t : List Record) (xs : List ℕ) (n : ℕ) → heardAt other t (addressesOf t) (readOf (s .own) (roleAssociates (s .role)) xs) ≡ heardAt s t (addressesOf t) (readOf (s .own) (roleAssociates (s .role)) xs)
@@ -136,11 +139,16 @@ module _ (s : Settings) (edition protection : ℕ) (fit : settingsFit (inEdition
       let at = findOf (addressesOf t) a in
       rw (well-alike t, asks-alike s edition protection (peerOf t at a) (aidOf at) (othersOf s t) q c r)
 
+  linked-alike : (t : List Record) (xs : List ℕ) (n : ℕ) → linkedOf other t xs n ≡ linkedOf s t xs n
+  unfolding inEdition linkedOf linkedAt mayLink linkAllowed linkingOf turnOf
+  linked-alike t xs n = rw (well-alike t)
+
   -- No event looks at the edition or the flag but these two: neither the table, nor the answer, nor what is written.
   pub steps-alike :
       (t : List Record) (e : Event) (xs : List ℕ) (n : ℕ) → editionAsked s t e xs ≡ false → stepOf other t e xs n ≡ stepOf s t e xs n
   steps-alike t event.Frame xs n r = rw (received-alike t xs n (read-alike t (readOf (s .own) (roleAssociates (s .role)) xs) r))
   steps-alike t (event.Ask q a c) xs n r = rw (asked-alike t q a c n r)
+  steps-alike t event.Links xs n r = rw (linked-alike t xs n)
   steps-alike t (event.Clock d) xs n r = passed-alike t d n
 
   pub written-alike :
@@ -148,6 +156,7 @@ module _ (s : Settings) (edition protection : ℕ) (fit : settingsFit (inEdition
   unfolding passedIn
   written-alike t event.Frame xs l r = rw (received-alike t xs (length l) (read-alike t (readOf (s .own) (roleAssociates (s .role)) xs) r))
   written-alike t (event.Ask q a c) xs l r = rw (asked-alike t q a c (length l) r)
+  written-alike t event.Links xs l r = rw (linked-alike t xs (length l))
   written-alike t (event.Clock d) xs l r = rw (well-alike t, reports-alike d 0 t)
 
   -- Who asks answers no (re)association request, and refuses primitives 7 and 8, so there it holds of every event.
@@ -157,7 +166,7 @@ module _ (s : Settings) (edition protection : ℕ) (fit : settingsFit (inEdition
     asking-read t Discarded = refl
     asking-read t Admitted = refl
     asking-read t (From peer group k h) =
-        turn-alike t peer group k h (station-hears-alike s edition protection (peerOf t (findOf (addressesOf t) peer) peer) (no-ap (s .role) asks) k group h)
+        turn-alike t peer group k h (station-hears-alike s edition protection (peerOf t (seekOf t (addressesOf t) peer) peer) (no-ap (s .role) asks) k group h)
 
     asking-asked : (t : List Record) (q a c n : ℕ) → askedOf other t q a c n ≡ askedOf s t q a c n
     unfolding inEdition askedOf askedAt othersOf mayAsk
@@ -172,6 +181,7 @@ module _ (s : Settings) (edition protection : ℕ) (fit : settingsFit (inEdition
     pub asking-alike : (t : List Record) (e : Event) (xs : List ℕ) (n : ℕ) → stepOf other t e xs n ≡ stepOf s t e xs n
     asking-alike t event.Frame xs n = rw (received-alike t xs n (asking-read t (readOf (s .own) (roleAssociates (s .role)) xs)))
     asking-alike t (event.Ask q a c) xs n = rw (asking-asked t q a c n)
+    asking-alike t event.Links xs n = steps-alike t event.Links xs n refl
     asking-alike t (event.Clock d) xs n = steps-alike t (event.Clock d) xs n refl
 
 -- ---- For one: a station in the two editions, and a peer of an ad hoc network, asked for what they refuse.

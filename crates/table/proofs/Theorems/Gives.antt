@@ -1,4 +1,4 @@
--- What a frame or a primitive gives: the refusal of its list, or what has no refusal. For RefusedExactly and RefusedKeeps.
+-- What a frame, a primitive or a device's links give: the refusal of its list, or what has no refusal. For RefusedExactly and RefusedKeeps.
 -- Assumes nothing.
 use Prim.Native.Nat.{ℕ}
 use mathlib.Core.Path.{_≡_, refl}
@@ -17,11 +17,13 @@ use Rattle.octets.proofs.Branch.{by-bool}
 use Rattle.peer.specs.Authentication.{fullOf}
 use Rattle.peer.specs.Hear.{hearOf}
 use Rattle.peer.specs.Ask.{askOf}
+use Rattle.peer.specs.Record.{spokenAt}
+use Rattle.peer.specs.Turn.{linkingOf, towardsOf}
 use Rattle.peer.specs.Settings.{roleAssociates}
 use Rattle.peer.specs.declared.settings.Settings.{Settings}
 use Rattle.peer.specs.declared.record.Record.{Record}
 use Rattle.peer.specs.declared.turn.Turn.{Turn}
-use Rattle.table.specs.Places.{onFound, addressesOf, findOf}
+use Rattle.table.specs.Places.{onFound, addressesOf, findOf, seekOf}
 use Rattle.table.specs.Fit.{wellFormed}
 use Rattle.table.specs.Others.{othersOf}
 use Rattle.table.specs.Answer.{settledOf, refusedOf}
@@ -30,8 +32,10 @@ use Rattle.table.specs.Seat.{seatedOf, strangerOf, startsOf, newcomerOf,
 use Rattle.table.specs.Read.{forUs, readBare, readFrom, readFull, readOf}
 use Rattle.table.specs.Receive.{heardFrom, heardAt, receivedOf}
 use Rattle.table.specs.Ask.{askedAt, askedOf}
-use Rattle.table.specs.Exactly.{readRefusals, frameRefusals, askRefusals}
+use Rattle.table.specs.Exactly.{readRefusals, frameRefusals, askRefusals, linkRefusals}
+use Rattle.table.specs.Link.{deviceIn, linkedAt, linkedOf, linksIn}
 use Rattle.table.proofs.Theorems.Worded.{ruledAt, ruledList, worded}
+use Rattle.table.proofs.Theorems.WordedLinks.{ruledLinksAt, worded-links}
 use Rattle.table.specs.declared.rules.seat.Found.{Found}
 use Rattle.table.specs.declared.rules.seat.Found.the-variants.{At, Nothing}
 use Rattle.table.specs.declared.rules.read.Reading.{Reading}
@@ -70,8 +74,8 @@ heard-gives s t (Refused n) = refuses
 heard-gives s t Discarded = acts refl
 heard-gives s t Admitted = acts refl
 heard-gives s t (From peer group k h) =
-    let at = findOf (addressesOf t) peer in
-    turn-gives t at (findOf (addressesOf t) 0) (hearOf s (peerOf t at peer) k group h) (fullOf s (peerOf t at peer))
+    let at = seekOf t (addressesOf t) peer in
+    turn-gives t at (findOf (addressesOf t) 0) (towardsOf peer (hearOf s (peerOf t at peer) k group h)) (towardsOf peer (fullOf s (peerOf t at peer)))
 
 read-refusal : (own : ℕ) (infrastructure : Bool) (xs : List ℕ) → readRefusal (readOf own infrastructure xs) ≡ firstOf (readRefusals own xs)
 unfolding readOf shapeOf readBare readFull readFrom firstOf
@@ -95,7 +99,7 @@ asked-at-gives : (s : Settings) (t : List Record) (ads : List ℕ) (q a c : ℕ)
 unfolding askedAt
 asked-at-gives s t ads q a c =
     let at = findOf ads a in
-    let turn = askOf s (aidOf at) (peerOf t at a) (othersOf s t) q c in
+    let turn = towardsOf (spokenAt (peerOf t at a)) (askOf s (aidOf at) (peerOf t at a) (othersOf s t) q c) in
     unless-gives _ (turn-gives t at (findOf ads 0) turn turn)
 
 ruled-gives : (s : Settings) (t : List Record) (q a c n : ℕ) → Gives t (firstOf (ruledList s t q a c n)) (askedOf s t q a c n)
@@ -106,3 +110,16 @@ ruled-gives s t q a c n =
 
 pub asked-gives : (s : Settings) (t : List Record) (q a c n : ℕ) → Gives t (firstOf (askRefusals s t q a c n)) (askedOf s t q a c n)
 asked-gives s t q a c n = rw (worded s t q a c n) (ruled-gives s t q a c n)
+
+linked-at-gives : (s : Settings) (t : List Record) (ads xs : List ℕ) → Gives t (firstOf (ruledLinksAt s t ads xs)) (linkedAt s t ads xs)
+unfolding linkedAt
+linked-at-gives s t ads xs =
+    let at = findOf ads (deviceIn xs) in
+    let turn = linkingOf s (peerOf t at (deviceIn xs)) (linksIn xs) in
+    unless-gives _ (turn-gives t at (findOf ads 0) turn turn)
+
+pub linked-gives : (s : Settings) (t : List Record) (xs : List ℕ) (n : ℕ) → Gives t (firstOf (linkRefusals s t xs n)) (linkedOf s t xs n)
+unfolding linkedOf firstOf unless
+linked-gives s t xs n = rw (worded-links s t xs n) (
+    by-bool (ltb n longest) (λ e. simp e refuses) (λ e.
+    by-bool (wellFormed s t) (λ b. simp (e, b) (linked-at-gives s t (addressesOf t) xs)) (λ b. simp (e, b) refuses)))

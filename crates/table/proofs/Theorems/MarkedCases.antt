@@ -10,13 +10,14 @@ use Rattle.octets.specs.Element.{brokenOf, ends, isResponse, walk}
 use Rattle.octets.specs.Heard.{authenticationOf, responseOf, heardOf}
 use Rattle.octets.specs.Shape.{leastManagement, isBare, leastOf, shapeOf}
 use Rattle.octets.specs.Frame.{capabilityOf, aidField, headOf, bodyOf, bytesOf, writtenOf, lengthOf}
+use Rattle.octets.specs.Links.{noLinks}
 use Rattle.peer.specs.Settings.{networkFits, queryTimesFit, roleAnswers, roleAsks, roleAssociates, settingsFit, timeFits}
 use Rattle.peer.specs.Query.{queryIn}
-use Rattle.peer.specs.Record.{isJoined, associates, freshOf, isFree, changedOf, queriedOf}
-use Rattle.peer.specs.Fit.{stands, askedFits, awaitingFits, sentFits, highestState, holdFits, queryAllowed, recordFits, placeFits}
+use Rattle.peer.specs.Record.{isJoined, associates, freshOf, isFree, changedOf, queriedOf, spokenAt}
+use Rattle.peer.specs.Fit.{stands, askedFits, awaitingFits, sentFits, highestState, holdFits, queryAllowed, recordFits, placeFits, linksFit}
 use Rattle.peer.specs.Moves.{dsOf}
 use Rattle.peer.specs.Reply.{networkAddress, sendOf, authenticationTo, disassociationTo, requestTo, responseTo}
-use Rattle.peer.specs.Turn.{turnOf, endedOf, begunOf, repliedOf, stillOf}
+use Rattle.peer.specs.Turn.{turnOf, endedOf, begunOf, repliedOf, stillOf, towardsOf}
 use Rattle.peer.specs.Filter.{barredOf}
 use Rattle.peer.specs.Authentication.{requestedOf, authenticationAsked, answeredMove, authenticationAnswered, authenticationHeard}
 use Rattle.peer.specs.Farewell.{deauthenticationHeard}
@@ -26,7 +27,7 @@ use Rattle.peer.specs.Hear.{hearOf}
 use Rattle.peer.specs.Refuse.{codeAllowed, roleAllowed, joinConflict, conflictOf, joinedElsewhere, mismatchOf, heldOf}
 use Rattle.peer.specs.Ask.{startedOf, answerOf, associateOf, awaitedOf, respondOf, reportedMove, reportOf, askOf}
 use Rattle.peer.specs.Tick.{timedOf, freedOf, queriedTimed, reportedOf, tickOf}
-use Rattle.table.specs.Places.{allOf, firstFrom, allTails, countOf}
+use Rattle.table.specs.Places.{allOf, firstFrom, allTails, countOf, findLinkOf, linkAddressesOf, seekOf, someOf}
 use Rattle.table.specs.Fit.{aloneIn, crowdOf, sparseOf, wellFormed}
 use Rattle.table.specs.Others.{associatedOf, othersOf}
 use Rattle.table.specs.Answer.{settledOf, refusedOf, steppedOf}
@@ -49,4 +50,5 @@ unfolding validOf groupOf octets classIn classOf isPublicAction walk ends isResp
     allTails countOf aloneIn crowdOf sparseOf wellFormed associatedOf othersOf settledOf refusedOf steppedOf seatedOf startsOf newcomerOf
     firstOf unless forUs readFrom readFull readOf heardFrom receivedOf mayAsk noPlace askedAt askedOf reportFor reportsOf clockedOf passedOf
     passedIn same answerFields recordFields sameTable zerosAfter tableOf lineComesOut linesComeOut comesOut marked
+    noLinks linksFit linkAddressesOf someOf findLinkOf seekOf towardsOf spokenAt
 marked-cases = refl

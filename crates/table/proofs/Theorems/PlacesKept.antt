@@ -9,16 +9,15 @@ use native.Mathlib.Omega.{arith}
 use lib.Dec.{eqb, ltb}
 use lib.ListN.{getD, set}
 use lib.Seq.{getD-set-other, set-getD}
-use borrow.Author.Tests.{eqb-false, eqb-true}
 use Rattle.octets.proofs.Branch.{by-bool, pick-both}
 use Rattle.octets.specs.Frame.{longest}
+use Rattle.octets.specs.Links.{unlinked}
 use Rattle.peer.proofs.ErrorsThatLookRight.{ask-kept, hear-kept}
 use Rattle.peer.proofs.Fits.{clash, wrong}
-use Rattle.peer.proofs.Keeps.{parted-address}
-use Rattle.peer.specs.Ask.{askOf}
+use Rattle.peer.proofs.Links.{parted-links}
 use Rattle.peer.specs.Association.{partedOf}
-use Rattle.peer.specs.Hear.{hearOf}
-use Rattle.peer.specs.Record.{freeOf}
+use Rattle.peer.specs.Record.{freeOf, linkedOf as withLinks}
+use Rattle.peer.specs.Turn.{linkingOf, towardsOf, turnOf}
 use Rattle.peer.specs.declared.record.Exchange.the-variants.{None}
 use Rattle.peer.specs.declared.query.Query.the-variants as query
 use Rattle.peer.specs.declared.record.Record.{Record}
@@ -28,12 +27,13 @@ use Rattle.peer.specs.declared.turn.Turn.{Turn}
 use Rattle.table.specs.Answer.{refusedOf, settledOf, steppedOf}
 use Rattle.table.specs.Ask.{askedAt, askedOf}
 use Rattle.table.specs.Fit.{wellFormed}
+use Rattle.table.specs.Link.{deviceIn, linkedAt, linkedOf}
 use Rattle.table.specs.Order.{addressOf}
 use Rattle.table.specs.Others.{othersOf}
-use Rattle.table.specs.Places.{addressesOf, findOf, onFound}
+use Rattle.table.specs.Places.{addressesOf, findOf, seekOf}
 use Rattle.table.specs.Read.{readOf}
 use Rattle.table.specs.Receive.{heardAt, heardFrom, receivedOf}
-use Rattle.table.specs.Refusals.{firstOf, unless}
+use Rattle.table.specs.Refusals.{unless}
 use Rattle.table.specs.Seat.{aidOf, newcomerOf, peerOf, seatedOf, startsOf, strangerOf, turnIn}
 use Rattle.table.specs.Step.{stepOf}
 use Rattle.table.specs.declared.rules.answer.Met.{Met}
@@ -48,6 +48,7 @@ use Rattle.table.proofs.Passes.Lists.{first-at, get-map, map-same, map-
 abbrev pub isClock : Event → Bool
 isClock event.Frame = false
 isClock (event.Ask q a c) = false
+isClock event.Links = false
 isClock (event.Clock d) = true
 
 -- the statement: every role, every rule, in a table of any kind
@@ -64,7 +65,7 @@ module _ (t : List Record) where
   seated-addresses : (j : ℕ) (turn : Turn) → addressesOf (seatedOf t j turn .table) ≡ set (addressesOf t) j (turn .peer .address)
   unfolding seatedOf
   seated-addresses j turn = by-bool (turn .sole)
-      (λ e. rw (e, map-set addressOf (map partedOf t) j (turn .peer), map-same addressOf partedOf parted-address t))
+      (λ e. rw (e, map-set addressOf (map partedOf t) j (turn .peer), map-same addressOf partedOf (λ p. parted-links p .0) t))
       (λ e. rw (e, map-set addressOf t j (turn .peer)))
 
   -- in a place found by its address
@@ -92,13 +93,13 @@ module _ (t : List Record) where
 
   module _ (s : Settings) where
     heard : (r : Reading) → Stays t (heardAt s t (addressesOf t) r)
-    unfolding refusedOf settledOf heardFrom
+    unfolding refusedOf settledOf heardFrom towardsOf
     heard (Refused n) = λ i z. refl
     heard Discarded = λ i z. refl
     heard Admitted = λ i z. refl
     heard (From peer group k h) =
-        in-turn peer (findOf (addressesOf t) peer) (findOf (addressesOf t) 0) _ _ refl
-        (hear-kept s (peerOf t (findOf (addressesOf t) peer) peer) k group h)
+        in-turn peer (seekOf t (addressesOf t) peer) (findOf (addressesOf t) 0) _ _ refl
+        (hear-kept s (peerOf t (seekOf t (addressesOf t) peer) peer) k group h)
 
     frame-stays : (xs : List ℕ) (n : ℕ) → Stays t (receivedOf s t xs n)
     unfolding receivedOf refusedOf settledOf
@@ -111,10 +112,15 @@ module _ (t : List Record) where
     unless-stays n m k = pick-both (Stays t) (eqb n 0) k (λ i z. refl)
 
     primitive-stays : (q a c n : ℕ) → Stays t (askedOf s t q a c n)
-    unfolding askedOf askedAt
+    unfolding askedOf askedAt towardsOf
     primitive-stays q a c n = unless-stays _ _ (unless-stays _ _
         (in-turn a (findOf (addressesOf t) a) (findOf (addressesOf t) 0) _ _ refl
         (ask-kept s (peerOf t (findOf (addressesOf t) a) a) (aidOf (findOf (addressesOf t) a)) (othersOf s t) q c)))
+
+    links-stay : (xs : List ℕ) (n : ℕ) → Stays t (linkedOf s t xs n)
+    unfolding linkedOf linkedAt linkingOf turnOf withLinks
+    links-stay xs n = unless-stays _ _ (unless-stays _ _
+        (in-turn (deviceIn xs) (findOf (addressesOf t) (deviceIn xs)) (findOf (addressesOf t) 0) _ _ refl refl))
 
 -- from the addresses to the records
 placed : (t u : List Record) → ((i : ℕ) → eqb (getD (addressesOf t) i 0) 0 ≡ false → getD (addressesOf u) i 0 ≡ getD (addressesOf t) i 0)
@@ -125,6 +131,7 @@ pub place-kept : PlaceKept
 unfolding steppedOf
 place-kept s t event.Frame xs n c i z = placed t (receivedOf s t xs n .table) (frame-stays t s xs n) i z
 place-kept s t (event.Ask q a d) xs n c i z = placed t (askedOf s t q a d n .table) (primitive-stays t s q a d n) i z
+place-kept s t event.Links xs n c i z = placed t (linkedOf s t xs n .table) (links-stay t s xs n) i z
 place-kept s t (event.Clock d) xs n c i z = wrong (sym c)
 
 -- For one: a peer in State 4 at place 0 of an access point, deauthenticated from our own side.
@@ -132,7 +139,7 @@ abbrev ours : Settings
 ours = record { own = 2; network = 0; authentication = 100; association = 100; role = 1; rsna = 0; edition = 1; protection = 0; retry = 201; maximum = 1000 }
 
 abbrev peer : Record
-peer = record { address = 4; state = 4; exchange = None; left = 0; hold = 0; query = query.None; identifier = 0 }
+peer = record { address = 4; state = 4; exchange = None; left = 0; hold = 0; query = query.None; identifier = 0; links = unlinked }
 
 peer-stays : getD (stepOf ours (peer ∷ []) (event.Ask 3 4 1) [] 37 .table) 0 freeOf .address ≡ 4
 peer-stays = place-kept ours (peer ∷ []) (event.Ask 3 4 1) [] 37 refl 0 refl

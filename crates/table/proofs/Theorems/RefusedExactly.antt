@@ -17,8 +17,9 @@ use Rattle.table.specs.Receive.{receivedOf}
 use Rattle.table.specs.Ask.{askedOf}
 use Rattle.table.specs.Pass.{passRefusals, passedOf}
 use Rattle.table.specs.Step.{stepOf}
-use Rattle.table.proofs.Theorems.Gives.{Gives, refuses, acts, received-gives, asked-gives}
-use Rattle.table.specs.Exactly.{NoneHolds, First, Exactly, frameRefusals, askRefusals, refusalsOf}
+use Rattle.table.proofs.Theorems.Gives.{Gives, refuses, acts, received-gives, asked-gives, linked-gives}
+use Rattle.table.specs.Exactly.{NoneHolds, First, Exactly, frameRefusals, askRefusals, linkRefusals, refusalsOf}
+use Rattle.table.specs.Link.{linkedOf}
 use Rattle.table.specs.declared.rules.answer.Met.{Met}
 use Rattle.table.specs.declared.rules.event.Event.{Event}
 use Rattle.table.specs.declared.rules.event.Event.the-variants as event
@@ -90,6 +91,9 @@ received-refusal s t xs n = gives-refusal (received-gives s t xs n)
 pub asked-refusal : (s : Settings) (t : List Record) (q a c n : ℕ) → askedOf s t q a c n .answer .refusal ≡ firstOf (askRefusals s t q a c n)
 asked-refusal s t q a c n = gives-refusal (asked-gives s t q a c n)
 
+pub linked-refusal : (s : Settings) (t : List Record) (xs : List ℕ) (n : ℕ) → linkedOf s t xs n .answer .refusal ≡ firstOf (linkRefusals s t xs n)
+linked-refusal s t xs n = gives-refusal (linked-gives s t xs n)
+
 pub passed-refusal : (s : Settings) (t : List Record) (d n : ℕ) → passedOf s t d n .answer .refusal ≡ firstOf (passRefusals s t d n)
 unfolding passedOf
 passed-refusal s t d n =
@@ -99,12 +103,14 @@ pub refusal-first : (s : Settings) (t : List Record) (e : Event) (xs : List ℕ)
 unfolding steppedOf
 refusal-first s t event.Frame xs n = received-refusal s t xs n
 refusal-first s t (event.Ask q a c) xs n = asked-refusal s t q a c n
+refusal-first s t event.Links xs n = linked-refusal s t xs n
 refusal-first s t (event.Clock d) xs n = passed-refusal s t d n
 
 all-numbered : (s : Settings) (t : List Record) (e : Event) (xs : List ℕ) (n : ℕ) → Numbered (refusalsOf s t e xs n)
 unfolding allTails
 all-numbered s t event.Frame xs n = refl
 all-numbered s t (event.Ask q a c) xs n = refl
+all-numbered s t event.Links xs n = refl
 all-numbered s t (event.Clock d) xs n = refl
 
 -- Of any settings, table, event, frame and length of the buffer: the number given is exactly the list's.
@@ -119,4 +125,5 @@ refusal-listed s t e xs n = rw (refusal-first s t e xs n) (first-below (refusals
     below : (e : Event) → Below (refusalsOf s t e xs n)
     below event.Frame = refl
     below (event.Ask q a c) = refl
+    below event.Links = refl
     below (event.Clock d) = refl

@@ -16,7 +16,7 @@ use Rattle.table.specs.Exactly.{Untouched}
 use Rattle.table.specs.declared.rules.answer.Met.{Met}
 use Rattle.table.specs.declared.rules.event.Event.{Event}
 use Rattle.table.specs.declared.rules.event.Event.the-variants as event
-use Rattle.table.proofs.Theorems.Gives.{Gives, refuses, acts, received-gives, asked-gives}
+use Rattle.table.proofs.Theorems.Gives.{Gives, refuses, acts, received-gives, asked-gives, linked-gives}
 use Rattle.table.proofs.Theorems.RefusedExactly.{refusal-first}
 
 met-keeps : {t : List Record} {n : ℕ} {m : Met} (l : List ℕ) → Gives t n m → (m .answer .refusal ≡ 0 → ⊥) → Untouched t l (steppedOf m (length l)) (saidIn (m .reply) l)
@@ -34,5 +34,6 @@ pub refused-keeps : (s : Settings) (t : List Record) (e : Event) (xs l : List �
 unfolding steppedOf
 refused-keeps s t event.Frame xs l h = met-keeps l (received-gives s t xs (length l)) h
 refused-keeps s t (event.Ask q a c) xs l h = met-keeps l (asked-gives s t q a c (length l)) h
+refused-keeps s t event.Links xs l h = met-keeps l (linked-gives s t xs (length l)) h
 refused-keeps s t (event.Clock d) xs l h =
     passed-keeps s t d l (λ z. h (refusal-first s t (event.Clock d) xs (length l) ∙ z))

@@ -2,9 +2,9 @@
 -- or a primitive writes, the octets at the buffer's front read as a frame to the peer that the event names, heard there as document 01 says
 -- (`step-said`). Of a table or settings that are not well formed nothing is written.
 -- Assumes nothing.
-use Prim.Native.Nat.{ℕ, _-_, _<_, _^_}
+use Prim.Native.Nat.{ℕ, _<_, _^_}
 use mathlib.Core.Path.{_≡_, refl, sym, subst, _∙_}
-use mathlib.Core.Bool.{Bool, true, false, not, _||_}
+use mathlib.Core.Bool.{Bool, true, false, not, _||_, or-false}
 use mathlib.Core.List.{List, [], _∷_}
 use native.Mathlib.Omega.{arith}
 use lib.Dec.{eqb, ltb}
@@ -17,6 +17,7 @@ use Rattle.octets.specs.Element.{brokenOf}
 use Rattle.octets.specs.Field.{allOctets, field}
 use Rattle.octets.specs.Frame.{longest}
 use Rattle.octets.specs.Heard.{heardOf}
+use Rattle.octets.specs.Links.{noLinks}
 use Rattle.octets.specs.Shape.{shapeOf}
 use Rattle.octets.specs.declared.heard.Heard.{Heard}
 use Rattle.octets.specs.declared.shape.Shape.{Shape}
@@ -25,16 +26,19 @@ use Rattle.peer.proofs.AskSaid.{ask-said}
 use Rattle.peer.proofs.Classes.{same-classless}
 use Rattle.peer.proofs.Fits.{Fits, both, fits-of, or-left, wrong}
 use Rattle.peer.proofs.HearSaid.{full-said, hear-said}
-use Rattle.peer.proofs.Keeps.{found-fits, fresh-fits, query-soon}
+use Rattle.peer.proofs.Keeps.{fresh-fits, query-soon}
+use Rattle.peer.proofs.Links.{hear-links}
+use Rattle.peer.proofs.Spoken.{spoken-alone, spoken-valid, towards-speaks}
 use Rattle.peer.proofs.Sent.{valid-below}
 use Rattle.peer.specs.Ask.{askOf}
 use Rattle.peer.specs.Authentication.{fullOf}
 use Rattle.peer.specs.Fit.{placeFits}
 use Rattle.peer.specs.Hear.{hearOf}
-use Rattle.peer.specs.Record.{freeOf, freshOf, isFree, isJoined, underWay}
+use Rattle.peer.specs.Record.{freeOf, freshOf, isFree, isJoined, spokenAt, underWay}
 use Rattle.peer.specs.Refuse.{codeAllowed}
 use Rattle.peer.specs.Said.{ReadsTo, Speaks, repliedSays}
 use Rattle.peer.specs.Settings.{roleAnswers, roleAssociates}
+use Rattle.peer.specs.Turn.{towardsOf}
 use Rattle.peer.specs.declared.query.Query.the-variants as query
 use Rattle.peer.specs.declared.record.Record.{Record}
 use Rattle.peer.specs.declared.refuse.Others.{Others}
@@ -47,7 +51,7 @@ use Rattle.table.specs.Ask.{askedAt, askedOf, mayAsk}
 use Rattle.table.specs.Fit.{wellFormed}
 use Rattle.table.specs.Meant.{Spoken, saysIn, spokenTo}
 use Rattle.table.specs.Others.{associatedOf, othersOf}
-use Rattle.table.specs.Places.{addressesOf, allOf, allTails, findOf, onFound}
+use Rattle.table.specs.Places.{addressesOf, allOf, allTails, findLinkOf, findOf, onFound, seekOf}
 use Rattle.table.specs.Read.{forUs, readAs, readBare, readFrom, readFull, readOf}
 use Rattle.table.specs.Receive.{heardAt, heardFrom, receivedOf}
 use Rattle.table.specs.Refusals.{firstOf, unless}
@@ -59,8 +63,8 @@ use Rattle.table.specs.declared.rules.event.Event.{Event}
 use Rattle.table.specs.declared.rules.event.Event.the-variants as event
 use Rattle.table.specs.declared.rules.seat.Found.{Found}
 use Rattle.table.specs.declared.rules.seat.Found.the-variants.{At, Nothing}
-use Rattle.table.proofs.Passes.Lists.{all-get, first-at, get-map}
-use Rattle.table.proofs.Theorems.Well.{Well, well-of}
+use Rattle.table.proofs.Passes.LinkLaws.{unfound}
+use Rattle.table.proofs.Theorems.Well.{Well, alone-found, find-leads, leads-fits, seek-leads, well-of}
 use Rattle.table.proofs.Theorems.WrittenCount.{written-count}
 
 -- a frame that is read for its peer has a class
@@ -105,21 +109,6 @@ module _ (s : Settings) where
   others-below t h = pick-both (λ (o : Others). o .associated < 2 ^ 48) (roleAnswers (s .role)) (omega arith) (associated-below t h)
 
   module _ (t : List Record) (w : Well s t) where
-    free-fits : placeFits s freeOf ≡ true
-    unfolding placeFits isFree
-    free-fits = refl
-
-    -- the record of a peer, fresh where it has none, fits and is that peer's
-    peer-fits : (a : ℕ) → not (eqb a (s .own)) ≡ true → validOf a ≡ true → (at : Found) → findOf (addressesOf t) a ≡ at → Fits s (peerOf t at a) × (peerOf t at a .address ≡ a)
-    unfolding freshOf
-    peer-fits a own v Nothing e = (fresh-fits s a own v, refl)
-    peer-fits a own v (At i) e =
-        let found = first-at (λ (b : ℕ). eqb b a) 0 (addressesOf t) 0 i e in
-        let at-i : i - 0 ≡ i = omega arith in
-        let b : eqb (getD (addressesOf t) i 0) a ≡ true = rw at-i at (found .1) in
-        let z : getD t i freeOf .address ≡ a = sym (get-map (λ (p : Record). p .address) t i freeOf) ∙ eqb-true _ a b in
-        (found-fits s (getD t i freeOf) (all-get (placeFits s) t i freeOf (w .places) free-fits) (rw z v), z)
-
     -- ---- frames, of the classes where there are access points or in an ad hoc network
 
     abbrev on : Bool
@@ -129,23 +118,37 @@ module _ (s : Settings) where
       turned : (p : Record) → Fits s p → Speaks s (p .address) (repliedSays s (p .state) (p .query) (numberOf (classIn on xs)) (heardOf xs)) (hearOf s p (classIn on xs) group (heardOf xs) .reply)
       turned p f = hear-said s (w .settings) p (f .valid) (f .low) (query-soon s p (w .settings) f) on xs o k group
 
-      stranger-said : (a : ℕ) (free : Found) → Fits s (freshOf a) → Said a (repliedSays s 1 query.None (numberOf (classIn on xs)) (heardOf xs)) (newcomerOf t free (hearOf s (freshOf a) (classIn on xs) group (heardOf xs)) (fullOf s (freshOf a)))
-      unfolding newcomerOf strangerOf seatedOf startsOf freshOf
-      stranger-said a free f =
-          pick-by (Said a _) (not (eqb (underWay (hearOf s (freshOf a) (classIn on xs) group (heardOf xs) .peer .exchange)) 0))
-          (λ b. placed free (not-true _ b))
-          (λ b. turned (freshOf a) f)
-        where
-          placed : (free : Found) → eqb (underWay (hearOf s (freshOf a) (classIn on xs) group (heardOf xs) .peer .exchange)) 0 ≡ false → Said a (repliedSays s 1 query.None (numberOf (classIn on xs)) (heardOf xs)) (onFound free (strangerOf t (fullOf s (freshOf a))) (λ i. seatedOf t i (hearOf s (freshOf a) (classIn on xs) group (heardOf xs))))
-          placed Nothing b = full-said s (w .settings) (freshOf a) (f .valid) (f .low) (query-soon s (freshOf a) (w .settings) f) refl refl on xs k group b
-          placed (At i) b = turned (freshOf a) f
+      -- to an address of the peer
+      abbrev turn : ℕ → Record → Turn
+      turn a p = towardsOf a (hearOf s p (classIn on xs) group (heardOf xs))
 
-      from-said : (a : ℕ) → not (eqb a (s .own)) ≡ true → validOf a ≡ true → (at free : Found) → findOf (addressesOf t) a ≡ at → Said a (repliedSays s (peerOf t at a .state) (peerOf t at a .query) (numberOf (classIn on xs)) (heardOf xs)) (turnIn t at free (hearOf s (peerOf t at a) (classIn on xs) group (heardOf xs)) (fullOf s (peerOf t at a)))
-      unfolding seatedOf freshOf
+      stranger-said : (a : ℕ) (free : Found) → Fits s (freshOf a) → Said a (repliedSays s 1 query.None (numberOf (classIn on xs)) (heardOf xs)) (newcomerOf t free (turn a (freshOf a)) (towardsOf a (fullOf s (freshOf a))))
+      unfolding newcomerOf strangerOf seatedOf startsOf freshOf towardsOf noLinks
+      stranger-said a free f =
+          pick-by (Said a (repliedSays s 1 query.None (numberOf (classIn on xs)) (heardOf xs))) (startsOf (turn a (freshOf a)))
+          (λ b. placed free (not-true _ (begun b)))
+          (λ b. here)
+        where
+          low : a < 2 ^ 48
+          low = valid-below a (f .valid)
+
+          here : Speaks s a (repliedSays s 1 query.None (numberOf (classIn on xs)) (heardOf xs)) (turn a (freshOf a) .reply)
+          here = towards-speaks s a a (repliedSays s 1 query.None (numberOf (classIn on xs)) (heardOf xs)) (hearOf s (freshOf a) (classIn on xs) group (heardOf xs) .reply) (λ n. refl) low (turned (freshOf a) f)
+
+          -- a stranger has no links
+          begun : startsOf (turn a (freshOf a)) ≡ true → not (eqb (underWay (hearOf s (freshOf a) (classIn on xs) group (heardOf xs) .peer .exchange)) 0) ≡ true
+          begun b = sym (or-false (not (eqb (underWay (hearOf s (freshOf a) (classIn on xs) group (heardOf xs) .peer .exchange)) 0))) ∙ (rw (hear-links s (freshOf a) (classIn on xs) group (heardOf xs) .1) at b)
+
+          placed : (free : Found) → eqb (underWay (hearOf s (freshOf a) (classIn on xs) group (heardOf xs) .peer .exchange)) 0 ≡ false → Said a (repliedSays s 1 query.None (numberOf (classIn on xs)) (heardOf xs)) (onFound free (strangerOf t (towardsOf a (fullOf s (freshOf a)))) (λ i. seatedOf t i (turn a (freshOf a))))
+          placed Nothing b = towards-speaks s a a (repliedSays s 1 query.None (numberOf (classIn on xs)) (heardOf xs)) (fullOf s (freshOf a) .reply) (λ n. refl) low (full-said s (w .settings) (freshOf a) (f .valid) (f .low) (query-soon s (freshOf a) (w .settings) f) refl refl on xs k group b)
+          placed (At i) b = here
+
+      from-said : (a : ℕ) → not (eqb a (s .own)) ≡ true → validOf a ≡ true → (at free : Found) → seekOf t (addressesOf t) a ≡ at → Said a (repliedSays s (peerOf t at a .state) (peerOf t at a .query) (numberOf (classIn on xs)) (heardOf xs)) (turnIn t at free (turn a (peerOf t at a)) (towardsOf a (fullOf s (peerOf t at a))))
+      unfolding seatedOf freshOf towardsOf
       from-said a own v Nothing free e = stranger-said a free (fresh-fits s a own v)
       from-said a own v (At i) free e =
-          let f = peer-fits a own v (At i) e in
-          rw (f .1) at (turned (getD t i freeOf) (f .0))
+          let f = seek-leads s t w a own v (At i) e in
+          towards-speaks s (getD t i freeOf .address) a (repliedSays s (getD t i freeOf .state) (getD t i freeOf .query) (numberOf (classIn on xs)) (heardOf xs)) (hearOf s (getD t i freeOf) (classIn on xs) group (heardOf xs) .reply) (alone-found s t w a (At i) e f) (valid-below a v) (turned (getD t i freeOf) f)
 
     read-said : (xs : List ℕ) → allOctets xs ≡ true → (shape : Shape) → shapeOf xs ≡ shape → Said (field 6 10 xs) (saysIn s t event.Frame xs) (heardAt s t (addressesOf t) (readAs shape (s .own) on xs))
     unfolding refusedOf settledOf readBare readFull readFrom heardFrom
@@ -160,7 +163,7 @@ module _ (s : Settings) where
         let n = or-left (eqb (field 6 10 xs) (s .own)) _ g in
         by-bool (brokenOf xs) (λ b. rw (u, g, b) tt) (λ b.
         rw (u, g, b) (from-said xs o (same-classless on xs ∙ full-classed xs e) (groupOf (field 6 4 xs)) (field 6 10 xs) (rw (n .0)) (not-false _ (n .1))
-        (findOf (addressesOf t) (field 6 10 xs)) (findOf (addressesOf t) 0) refl))))
+        (seekOf t (addressesOf t) (field 6 10 xs)) (findOf (addressesOf t) 0) refl))))
 
     -- ---- primitives
 
@@ -180,19 +183,21 @@ module _ (s : Settings) where
     turn-said a h Nothing (At i) turn k = pick-both (Said a h) (startsOf turn) k k
     turn-said a h (At i) free turn k = k
 
-    asked-said : (q a c : ℕ) (xs : List ℕ) → c < 2 ^ 16 → Said a (saysIn s t (event.Ask q a c) xs) (askedAt s t (addressesOf t) q a c)
-    unfolding askedAt mayAsk
+    asked-said : (q a c : ℕ) (xs : List ℕ) → c < 2 ^ 16 → Said (spokenTo t (event.Ask q a c) xs) (saysIn s t (event.Ask q a c) xs) (askedAt s t (addressesOf t) q a c)
+    unfolding askedAt mayAsk towardsOf
     asked-said q a c xs short =
         let at = findOf (addressesOf t) a in
-        let turn = askOf s (aidOf at) (peerOf t at a) (othersOf s t) q c in
+        let p = peerOf t at a in
+        let turn = askOf s (aidOf at) p (othersOf s t) q c in
         let h = saysIn s t (event.Ask q a c) xs in
-        unless-said a h _ _ (λ e.
-        let may = both (codeAllowed q c) _ (not-false _ (none-first 3 _ _ refl e)) in
+        unless-said (spokenAt p) h _ _ (λ e.
+        let n = or-left (not (mayAsk s q a c)) _ (none-first 3 _ _ refl e) in
+        let may = both (codeAllowed q c) _ (not-false _ (n .0)) in
         let peer = both (not (eqb a (s .own))) _ (may .1) in
-        let f = peer-fits a (peer .0) (peer .1) at refl in
-        turn-said a h at (findOf (addressesOf t) 0) turn
-        (subst (λ (b : ℕ). Speaks s b h (turn .reply)) (f .1)
-        (ask-said s (w .settings) (peerOf t at a) (f .0 .valid) (f .0 .numbered) (aidOf at) (aid-small at) (othersOf s t) (others-below t (w .places)) q c short)))
+        let f = leads-fits s t w a at (find-leads s t w a (peer .0) (peer .1) at (unfound (findLinkOf t a) (n .1)) refl) in
+        turn-said (spokenAt p) h at (findOf (addressesOf t) 0) (towardsOf (spokenAt p) turn)
+        (towards-speaks s (p .address) (spokenAt p) h (turn .reply) (spoken-alone s p f) (valid-below (spokenAt p) (spoken-valid s p f))
+        (ask-said s (w .settings) p (f .valid) (f .numbered) (aidOf at) (aid-small at) (othersOf s t) (others-below t (w .places)) q c short)))
 
 -- ---- each event
 
@@ -204,7 +209,7 @@ module _ (s : Settings) (t : List Record) (h : length t ≡ 32) where
       (pick-by (Said s (field 6 10 xs) (saysIn s t event.Frame xs)) (not (wellFormed s t)) (λ e. tt)
       (λ e. read-said s t (well-of s t (not-false _ e) h) xs o (shapeOf xs) refl))
 
-  primitive-said : (q a c : ℕ) (xs : List ℕ) (n : ℕ) → c < 2 ^ 16 → Speaks s a (saysIn s t (event.Ask q a c) xs) (askedOf s t q a c n .reply)
+  primitive-said : (q a c : ℕ) (xs : List ℕ) (n : ℕ) → c < 2 ^ 16 → Speaks s (spokenTo t (event.Ask q a c) xs) (saysIn s t (event.Ask q a c) xs) (askedOf s t q a c n .reply)
   unfolding askedOf unless firstOf refusedOf settledOf
   primitive-said q a c xs n short = by-bool (ltb n longest)
       (λ e. rw e tt)
@@ -219,13 +224,14 @@ module _ (s : Settings) (t : List Record) (h : length t ≡ 32) where
 
   pub step-said :
       (e : Event) (xs l : List ℕ) → Spoken e xs → 0 < stepOf s t e xs (length l) .answer .written
-      → ReadsTo s (spokenTo e xs) (saysIn s t e xs) (take (stepOf s t e xs (length l) .answer .written) (stepIn s t e xs l))
+      → ReadsTo s (spokenTo t e xs) (saysIn s t e xs) (take (stepOf s t e xs (length l) .answer .written) (stepIn s t e xs l))
   step-said event.Frame xs l o some =
       let wr = written-count s t event.Frame xs l h in
       subst (λ (ys : List ℕ). ReadsTo s (field 6 10 xs) (saysIn s t event.Frame xs) ys) (sym (wr .front))
       (spoken (field 6 10 xs) (saysIn s t event.Frame xs) (receivedOf s t xs (length l) .reply) (frame-said xs (length l) o) (rw (wr .count) at some))
   step-said (event.Ask q a c) xs l short some =
       let wr = written-count s t (event.Ask q a c) xs l h in
-      subst (λ (ys : List ℕ). ReadsTo s a (saysIn s t (event.Ask q a c) xs) ys) (sym (wr .front))
-      (spoken a (saysIn s t (event.Ask q a c) xs) (askedOf s t q a c (length l) .reply) (primitive-said q a c xs (length l) short) (rw (wr .count) at some))
+      subst (λ (ys : List ℕ). ReadsTo s (spokenTo t (event.Ask q a c) xs) (saysIn s t (event.Ask q a c) xs) ys) (sym (wr .front))
+      (spoken (spokenTo t (event.Ask q a c) xs) (saysIn s t (event.Ask q a c) xs) (askedOf s t q a c (length l) .reply) (primitive-said q a c xs (length l) short) (rw (wr .count) at some))
+  step-said event.Links xs l none some = absurd none
   step-said (event.Clock d) xs l none some = absurd none

@@ -21,22 +21,23 @@ use Rattle.octets.specs.Shape.{isBare, leastManagement, leastOf, shapeOf}
 use Rattle.octets.specs.declared.element.Comeback.the-variants.{Absent, Given}
 use Rattle.octets.specs.declared.heard.Heard.the-variants as heard
 use Rattle.octets.specs.declared.heard.Kind.the-variants.{Association, Authentication}
+use Rattle.octets.specs.Links.{noLinks, unlinked}
 use Rattle.peer.proofs.Queries.{site}
 use Rattle.peer.specs.Ask.{answerOf, askOf, awaitedOf, respondOf, startedOf}
 use Rattle.peer.specs.Association.{requestHeard}
 use Rattle.peer.specs.Challenge.{challengedOf, inquiredOf, isChallenged, queryingOf}
 use Rattle.peer.specs.Authentication.{answeredMove}
 use Rattle.peer.specs.Filter.{barredOf}
-use Rattle.peer.specs.Fit.{askedFits, highestState, holdFits, placeFits, queryAllowed, queryStands, recordFits, runningFits, stands}
+use Rattle.peer.specs.Fit.{askedFits, highestState, holdFits, placeFits, queryAllowed, queryStands, recordFits, runningFits, stands, linksFit}
 use Rattle.peer.specs.Hear.{hearOf}
 use Rattle.peer.specs.Moves.{dsOf}
 use Rattle.peer.specs.Query.{queryIn, runningOf}
-use Rattle.peer.specs.Record.{associates, changedOf, freeOf, freshOf, isFree, isJoined, queriedOf}
+use Rattle.peer.specs.Record.{associates, changedOf, freeOf, freshOf, isFree, isJoined, queriedOf, spokenAt}
 use Rattle.peer.specs.Refuse.{codeAllowed, conflictOf, heldOf, joinedElsewhere, mismatchOf, roleAllowed}
 use Rattle.peer.specs.Reply.{authenticationTo, deauthenticationTo, laterTo, networkAddress, queryTo, requestTo, responseTo, sendOf}
 use Rattle.peer.specs.Said.{ReadsTo}
 use Rattle.peer.specs.Settings.{networkFits, queryTimesFit, roleAnswers, roleAsks, roleAssociates, settingsFit, timeFits}
-use Rattle.peer.specs.Turn.{begunOf, endedOf, repliedOf, turnOf}
+use Rattle.peer.specs.Turn.{begunOf, endedOf, repliedOf, turnOf, towardsOf}
 use Rattle.peer.specs.declared.record.Exchange.the-variants.{Asked, None}
 use Rattle.peer.specs.declared.query.Query.the-variants as query
 use Rattle.peer.specs.declared.record.Record.{Record}
@@ -45,7 +46,7 @@ use Rattle.table.specs.Answer.{refusedOf, settledOf, steppedOf}
 use Rattle.table.specs.Ask.{askedAt, askedOf, mayAsk, noPlace}
 use Rattle.table.specs.Fit.{aloneIn, crowdOf, sparseOf, wellFormed}
 use Rattle.table.specs.Others.{associatedOf, othersOf}
-use Rattle.table.specs.Places.{addressesOf, allTails, countOf, findOf, firstFrom}
+use Rattle.table.specs.Places.{addressesOf, allTails, countOf, findOf, firstFrom, findLinkOf, linkAddressesOf, seekOf, someOf}
 use Rattle.table.specs.Read.{forUs, readFrom, readFull, readOf}
 use Rattle.table.specs.Receive.{heardFrom, receivedOf}
 use Rattle.table.specs.Refusals.{firstOf, unless}
@@ -64,8 +65,8 @@ home = record { role = 1; own = 0x0a; network = 0; rsna = 0; authentication = 10
 
 abbrev two : List Record
 two =
-    (record { address = 0x0c; state = 4; exchange = None; left = 0; hold = 0; query = query.None; identifier = 0 })
-    ∷ (record { address = 0x0e; state = 2; exchange = Asked Association; left = 0; hold = 0; query = query.None; identifier = 0 })
+    (record { address = 0x0c; state = 4; exchange = None; left = 0; hold = 0; query = query.None; identifier = 0; links = unlinked })
+    ∷ (record { address = 0x0e; state = 2; exchange = Asked Association; left = 0; hold = 0; query = query.None; identifier = 0; links = unlinked })
     ∷ replicate 30 freeOf
 
 -- primitive 7, status 0
@@ -77,6 +78,7 @@ unfolding validOf octets capabilityOf aidField headOf bodyOf bytesOf writtenOf l
     changedOf queryIn stands askedFits holdFits recordFits highestState queryAllowed placeFits dsOf networkAddress sendOf responseTo turnOf begunOf codeAllowed roleAllowed conflictOf
     joinedElsewhere mismatchOf heldOf awaitedOf respondOf askOf firstFrom allTails countOf aloneIn crowdOf sparseOf wellFormed associatedOf
     othersOf settledOf refusedOf steppedOf seatedOf startsOf newcomerOf firstOf unless mayAsk noPlace askedAt askedOf
+    noLinks linksFit linkAddressesOf someOf findLinkOf seekOf towardsOf spokenAt
 accepted = step-said home two refl (event.Ask 7 0x0e 0) [] (replicate 37 0) (omega arith) (omega arith)
 
 -- a data frame of a stranger, 06
@@ -87,6 +89,7 @@ unfolding validOf groupOf octets classIn classOf isPublicAction isResponse broke
     associates freshOf isFree changedOf queryIn stands askedFits holdFits recordFits highestState queryAllowed placeFits dsOf networkAddress sendOf deauthenticationTo turnOf repliedOf
     barredOf hearOf firstFrom allTails countOf aloneIn crowdOf sparseOf wellFormed settledOf refusedOf steppedOf seatedOf startsOf newcomerOf
     strangerOf forUs readFrom readFull readOf heardFrom receivedOf
+    noLinks linksFit linkAddressesOf someOf findLinkOf seekOf towardsOf spokenAt
 kept-out =
     step-said home two refl event.Frame
     (0x08 ∷ 1 ∷ 0 ∷ 0 ∷ 0x0a ∷ 0 ∷ 0 ∷ 0 ∷ 0 ∷ 0 ∷ 0x06 ∷ 0 ∷ 0 ∷ 0 ∷ 0 ∷ 0 ∷ 0x0c ∷ 0 ∷ 0 ∷ 0 ∷ 0 ∷ 0 ∷ 0 ∷ 0 ∷ [])
@@ -101,6 +104,7 @@ unfolding validOf groupOf octets classIn classOf isPublicAction isResponse broke
     headOf bodyOf bytesOf writtenOf lengthOf settingsFit queryTimesFit networkFits roleAnswers roleAsks roleAssociates timeFits isFree holdFits recordFits highestState queryAllowed placeFits networkAddress sendOf laterTo
     turnOf isChallenged challengedOf queryingOf queriedOf runningOf requestHeard hearOf firstFrom allTails aloneIn sparseOf wellFormed settledOf refusedOf
     steppedOf seatedOf forUs readFrom readFull readOf heardFrom receivedOf
+    noLinks linksFit linkAddressesOf someOf findLinkOf seekOf towardsOf spokenAt
 put-off = step-said site (with query.None) refl event.Frame request (replicate 37 0) refl (omega arith)
 
 -- and primitive 11, where the query to it is due
@@ -110,6 +114,7 @@ inquired :
 unfolding validOf octets headOf bodyOf bytesOf writtenOf lengthOf settingsFit queryTimesFit networkFits roleAnswers roleAsks roleAssociates timeFits isFree holdFits recordFits highestState queryAllowed runningFits queryStands
     placeFits networkAddress sendOf queryTo turnOf inquiredOf queriedOf codeAllowed roleAllowed conflictOf mismatchOf heldOf askOf firstFrom allTails aloneIn sparseOf
     wellFormed othersOf settledOf refusedOf steppedOf seatedOf firstOf unless mayAsk noPlace askedAt askedOf
+    noLinks linksFit linkAddressesOf someOf findLinkOf seekOf towardsOf spokenAt
 inquired = step-said site (with (query.Running 3 true)) refl (event.Ask 11 0x04 0) [] (replicate 37 0) (omega arith) (omega arith)
 
 -- ---- in an ad hoc network, 06, where Address 3 is the network's: primitive 1 to a stranger, and primitive 2 to one that asked
@@ -123,10 +128,11 @@ asked-first :
 unfolding validOf octets headOf bodyOf bytesOf writtenOf lengthOf settingsFit queryTimesFit networkFits roleAnswers roleAsks roleAssociates timeFits isFree freshOf
     placeFits networkAddress sendOf requestTo turnOf startedOf begunOf changedOf queryIn codeAllowed roleAllowed conflictOf mismatchOf heldOf askOf firstFrom allTails aloneIn
     sparseOf wellFormed othersOf settledOf refusedOf steppedOf seatedOf startsOf newcomerOf firstOf unless mayAsk noPlace askedAt askedOf
+    noLinks linksFit linkAddressesOf someOf findLinkOf seekOf towardsOf spokenAt
 asked-first = step-said met (replicate 32 freeOf) refl (event.Ask 1 0x0c 0) [] (replicate 37 0) (omega arith) (omega arith)
 
 abbrev asking : List Record
-asking = (record { address = 0x0c; state = 1; exchange = Asked Authentication; left = 0; hold = 0; query = query.None; identifier = 0 }) ∷ replicate 31 freeOf
+asking = (record { address = 0x0c; state = 1; exchange = Asked Authentication; left = 0; hold = 0; query = query.None; identifier = 0; links = unlinked }) ∷ replicate 31 freeOf
 
 answered :
     ReadsTo met 0x0c (heard.Authentication 0 2 0)
@@ -135,6 +141,7 @@ unfolding validOf octets headOf bodyOf bytesOf writtenOf lengthOf settingsFit qu
     askedFits stands recordFits highestState queryAllowed placeFits networkAddress sendOf authenticationTo turnOf answerOf answeredMove endedOf changedOf queryIn codeAllowed roleAllowed
     conflictOf mismatchOf heldOf askOf firstFrom allTails aloneIn sparseOf wellFormed othersOf settledOf refusedOf steppedOf seatedOf firstOf unless mayAsk noPlace
     askedAt askedOf
+    noLinks linksFit linkAddressesOf someOf findLinkOf seekOf towardsOf spokenAt
 answered = step-said met asking refl (event.Ask 2 0x0c 0) [] (replicate 37 0) (omega arith) (omega arith)
 
 -- ---- the places

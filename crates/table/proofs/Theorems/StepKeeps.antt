@@ -23,19 +23,22 @@ use Rattle.peer.proofs.Fits.{both, clash, or-left, wrong}
 use Rattle.peer.proofs.AskKeeps.{ask-keeps}
 use Rattle.peer.proofs.Classes.{classed}
 use Rattle.peer.proofs.HearKeeps.{hear-keeps}
+use Rattle.peer.proofs.Links.{ask-links, hear-links, tick-links}
 use Rattle.peer.proofs.TickKeeps.{tick-keeps}
 use Rattle.peer.specs.Fit.{placeFits}
 use Rattle.peer.specs.Record.{associates, isJoined}
 use Rattle.peer.specs.Refuse.{codeAllowed}
 use Rattle.peer.specs.Settings.{roleAnswers, roleAssociates}
+use Rattle.peer.specs.Turn.{towardsOf}
 use Rattle.peer.specs.declared.record.Record.{Record}
 use Rattle.peer.specs.declared.settings.Settings.{Settings}
 use Rattle.table.specs.Answer.{refusedOf, settledOf, steppedOf}
 use Rattle.table.specs.Ask.{askedAt, askedOf, mayAsk}
 use Rattle.table.specs.Fit.{crowdOf, wellFormed}
+use Rattle.table.specs.Link.{deviceIn, linkedAt, linkedOf}
 use Rattle.table.specs.Others.{othersOf}
 use Rattle.table.specs.Pass.{afterOf, clockedOf, passRefusals, passedOf}
-use Rattle.table.specs.Places.{addressesOf, countOf, findOf}
+use Rattle.table.specs.Places.{addressesOf, countOf, findLinkOf, findOf, linkAddressesOf, seekOf}
 use Rattle.table.specs.Read.{forUs, readAs, readBare, readFrom, readFull, readOf}
 use Rattle.table.specs.Receive.{heardAt, heardFrom, receivedOf}
 use Rattle.table.specs.Refusals.{firstOf, unless}
@@ -44,7 +47,11 @@ use Rattle.table.specs.Step.{stepOf}
 use Rattle.table.specs.declared.rules.answer.Met.{Met}
 use Rattle.table.specs.declared.rules.event.Event.{Event}
 use Rattle.table.specs.declared.rules.event.Event.the-variants as event
-use Rattle.table.proofs.Theorems.Well.{Well, in-turn, of-well, well-of}
+use Rattle.table.proofs.Theorems.LinkKeeps.{linking}
+use Rattle.table.proofs.Theorems.Seated.{in-turn}
+use Rattle.table.proofs.Theorems.Well.{Well, find-leads, leads-fits, of-well, seek-leads, well-of}
+use Rattle.table.proofs.Passes.LinkLaws.{unfound}
+use Rattle.table.proofs.Passes.LinkStores.{apart-map, links-map}
 use Rattle.table.proofs.Passes.Lists.{all-map, count-map, distinct-map}
 
 -- A table is as it must be after an event, with the octets xs where the event is a frame.
@@ -71,7 +78,7 @@ Framed s xs = roleAnswers (s .role) ≡ false → allOctets xs ≡ true
 
 module _ (s : Settings) (t : List Record) (w : Well s t) where
   heard : (xs : List ℕ) → Framed s xs → (shape : Shape) → Well s (heardAt s t (addressesOf t) (readAs shape (s .own) (roleAssociates (s .role)) xs) .table)
-  unfolding refusedOf settledOf readBare readFull readFrom heardFrom
+  unfolding refusedOf settledOf readBare readFull readFrom heardFrom towardsOf
   heard xs o Misfit = w
   heard xs o Classless = w
   heard xs o Bare = by-bool (forUs (s .own) (field 6 4 xs)) (λ e. rw e w) (λ e. rw e w)
@@ -82,10 +89,13 @@ module _ (s : Settings) (t : List Record) (w : Well s t) where
       (λ g.
       let n = or-left (eqb (field 6 10 xs) (s .own)) _ g in
       by-bool (brokenOf xs) (λ b. rw (e, g, b) w) (λ b.
-      rw (e, g, b) (in-turn s t w true (λ r b. wrong (sym b)) (field 6 10 xs) (rw (n .0)) (not-false _ (n .1))
-      (findOf (addressesOf t) (field 6 10 xs)) (findOf (addressesOf t) 0) _ _ refl
-      (λ f. hear-keeps s true (peerOf t (findOf (addressesOf t) (field 6 10 xs)) (field 6 10 xs)) f (w .settings)
-      (classIn (roleAssociates (s .role)) xs) (groupOf (field 6 4 xs)) (heardOf xs) (classed (roleAssociates (s .role)) xs) (λ r. heard-fits xs (o r)))))))
+      let a = field 6 10 xs in
+      let at = seekOf t (addressesOf t) a in
+      let l = seek-leads s t w a (rw (n .0)) (not-false _ (n .1)) at refl in
+      rw (e, g, b) (in-turn s t w true (λ r b. wrong (sym b)) a at (findOf (addressesOf t) 0) _ _ l refl
+      (hear-keeps s true (peerOf t at a) (leads-fits s t w a at l) (w .settings)
+      (classIn (roleAssociates (s .role)) xs) (groupOf (field 6 4 xs)) (heardOf xs) (classed (roleAssociates (s .role)) xs) (λ r. heard-fits xs (o r)))
+      (hear-links s (peerOf t at a) (classIn (roleAssociates (s .role)) xs) (groupOf (field 6 4 xs)) (heardOf xs) .1)))))
 
   frame-keeps : (xs : List ℕ) → Framed s xs → (n : ℕ) → Well s (receivedOf s t xs n .table)
   unfolding receivedOf refusedOf settledOf readOf
@@ -112,21 +122,37 @@ module _ (s : Settings) (t : List Record) (w : Well s t) where
   none-of k false rest z h = (refl, h)
 
   asked : (q a c : ℕ) → Well s (askedAt s t (addressesOf t) q a c .table)
-  unfolding askedAt mayAsk
+  unfolding askedAt mayAsk towardsOf
   asked q a c = unless-keeps _ _ (λ e.
       let r3 = none-of 3 _ _ refl e in
       let r5 = none-of 5 _ _ refl (r3 .1) in
       let r9 = none-of 9 _ _ refl (r5 .1) in
       let r7 = none-of 7 _ _ refl (r9 .1) in
-      let may = both (codeAllowed q c) _ (not-false _ (r3 .0)) in
+      let n = or-left (not (mayAsk s q a c)) _ (r3 .0) in
+      let may = both (codeAllowed q c) _ (not-false _ (n .0)) in
       let peer = both (not (eqb a (s .own))) _ (may .1) in
-      in-turn s t w (othersOf s t .busy) others-free a (peer .0) (peer .1) (findOf (addressesOf t) a) (findOf (addressesOf t) 0) _ _ refl
-      (λ f. ask-keeps s (peerOf t (findOf (addressesOf t) a) a) f (othersOf s t) (w .settings) _ q c
-      (may .0) (not-false _ (r5 .0)) (r9 .0) (r7 .0)))
+      let at = findOf (addressesOf t) a in
+      let l = find-leads s t w a (peer .0) (peer .1) at (unfound (findLinkOf t a) (n .1)) refl in
+      in-turn s t w (othersOf s t .busy) others-free a at (findOf (addressesOf t) 0) _ _ l refl
+      (ask-keeps s (peerOf t at a) (leads-fits s t w a at l) (othersOf s t) (w .settings) _ q c (may .0) (not-false _ (r5 .0)) (r9 .0) (r7 .0))
+      (ask-links s (peerOf t at a) _ (othersOf s t) q c .1))
 
   primitive-keeps : (q a c n : ℕ) → Well s (askedOf s t q a c n .table)
   unfolding askedOf
   primitive-keeps q a c n = unless-keeps _ _ (λ e. asked q a c)
+
+  -- ---- links
+
+  linked : (xs : List ℕ) → Well s (linkedAt s t (addressesOf t) xs .table)
+  unfolding linkedAt
+  linked xs = unless-keeps _ _ (λ e.
+      let r3 = none-of 3 _ _ refl e in
+      let r5 = none-of 5 _ _ refl (r3 .1) in
+      linking s t w xs (not-false _ (r3 .0)) (not-false _ (r5 .0)) (findOf (addressesOf t) (deviceIn xs)) refl (findOf (addressesOf t) 0))
+
+  links-keep : (xs : List ℕ) (n : ℕ) → Well s (linkedOf s t xs n .table)
+  unfolding linkedOf
+  links-keep xs n = unless-keeps _ _ (λ e. linked xs)
 
   -- ---- the clock
 
@@ -140,6 +166,8 @@ module _ (s : Settings) (t : List Record) (w : Well s t) where
         long = length-map t (afterOf s d) ∙ w .long;
         places = all-map (placeFits s) (placeFits s) (afterOf s d) (λ p h. tick-keeps s p d h .place) t (w .places);
         distinct = distinct-map (placeFits s) (afterOf s d) (λ p h. tick-keeps s p d h .same) t (w .places) (w .distinct);
+        apart = rw (links-map (afterOf s d) (placeFits s) (λ p h. tick-links s p d) t (w .places))
+            (apart-map (placeFits s) (afterOf s d) (λ p h. tick-keeps s p d h .same) (linkAddressesOf t) t (w .places) (w .apart));
         joined = λ r. omega (arith, w .joined r, count-map (placeFits s) isJoined isJoined (afterOf s d) (λ p h. tick-keeps s p d h .joins r refl) t (w .places));
         associating = λ r. omega (arith, w .associating r, count-map (placeFits s) associates associates (afterOf s d) (λ p h. tick-keeps s p d h .starts r refl) t (w .places));
       }
@@ -148,6 +176,7 @@ module _ (s : Settings) (t : List Record) (w : Well s t) where
   unfolding steppedOf
   stepped event.Frame xs o n = frame-keeps xs o n
   stepped (event.Ask q a c) xs o n = primitive-keeps q a c n
+  stepped event.Links xs o n = links-keep xs n
   stepped (event.Clock d) xs o n = clock-keeps d n
 
 -- ---- the theorems

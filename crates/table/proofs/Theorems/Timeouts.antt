@@ -3,7 +3,7 @@
 -- Assumes nothing.
 use Prim.Native.Nat.{ℕ, _+_, _*_}
 use mathlib.Core.Path.{_≡_, refl, sym, _∙_}
-use mathlib.Core.Bool.{true, false, not, _&&_}
+use mathlib.Core.Bool.{true, false, not}
 use mathlib.Core.List.{List, [], _∷_}
 use native.Mathlib.Omega.{arith}
 use lib.Dec.{ltb, leb, eqb}
@@ -25,8 +25,8 @@ use Rattle.peer.specs.declared.settings.Settings.{Settings}
 use Rattle.peer.specs.declared.record.Record.{Record}
 use Rattle.peer.specs.declared.record.Exchange.{Exchange}
 use Rattle.peer.specs.declared.record.Exchange.the-variants.{None, Asked, Awaiting, Sent}
-use Rattle.table.specs.Places.{allTails, allOf, countOf, addressesOf}
-use Rattle.table.specs.Fit.{distinctOf, sparseOf, wellFormed}
+use Rattle.table.specs.Places.{allTails, allOf, countOf}
+use Rattle.table.specs.Fit.{wellFormed}
 use Rattle.table.specs.Refusals.{firstOf}
 use Rattle.table.specs.Pass.{reportFor, reportsOf, passRefusals, clockedOf, passedOf}
 use Rattle.table.specs.Step.{stepOf}
@@ -124,7 +124,7 @@ pass-fits : (s : Settings) (t : List Record) (d n : ℕ) → NoneHolds (passRefu
 unfolding allTails wellFormed
 pass-fits s t d n h =
     let fit = not-false (wellFormed s t) (not-true (not (wellFormed s t)) (and-left (not (not (wellFormed s t))) _ (and-right (not (ltb n 256)) _ h))) in
-    and-left (allOf (placeFits s) t) (distinctOf (addressesOf t) && sparseOf s t) (and-right (settingsFit s) _ fit)
+    and-left (allOf (placeFits s) t) _ (and-right (settingsFit s) _ fit)
 
 pub clock-count : (s : Settings) (t : List Record) (d : ℕ) (xs : List ℕ) (n : ℕ) → stepOf s t (event.Clock d) xs n .answer .refusal ≡ 0 → stepOf s t (event.Clock d) xs n .answer .written ≡ 8 * countOf (reports s d) t
 unfolding passedOf clockedOf

@@ -5,19 +5,17 @@ use Prim.Native.Nat.{ℕ, _-_, _≤_}
 use mathlib.Core.Path.{_≡_, refl, ap as apply, sym, _∙_}
 use mathlib.Core.Bool.{Bool, true, false, not, _&&_, _||_, or-false, Bool·not-not as not-not}
 use mathlib.Core.List.{List, _∷_}
-use native.Mathlib.Omega.{arith}
 use lib.Dec.{eqb, ltb, leb}
-use lib.ListN.{getD}
-use borrow.Author.Tests.{eqb-true, le-ltb, leb-false, leb-true, lt-ltb}
+use borrow.Author.Tests.{le-ltb, leb-false, leb-true, lt-ltb, not-false}
 use Rattle.octets.proofs.Branch.{and-right, by-bool}
 use Rattle.octets.specs.Address.{validOf}
 use Rattle.octets.specs.Frame.{longest}
 use Rattle.octets.specs.declared.heard.Kind.{Kind}
 use Rattle.octets.specs.declared.heard.Kind.the-variants.{Authentication, Association, Reassociation}
-use Rattle.peer.proofs.Fits.{both}
+use Rattle.peer.proofs.Fits.{both, or-left}
 use Rattle.peer.specs.Fit.{placeFits}
 use Rattle.peer.specs.Query.{isDue}
-use Rattle.peer.specs.Record.{associates, awaitingOf, freeOf, freshOf, isAsked, isFree, isJoined}
+use Rattle.peer.specs.Record.{associates, awaitingOf, freshOf, isAsked, isFree, isJoined}
 use Rattle.peer.specs.Refuse.{codeAllowed, roleAllowed, conflictOf, joinConflict, joinedElsewhere, mismatchOf, heldOf}
 use Rattle.peer.specs.Settings.{roleAnswers, settingsFit, station}
 use Rattle.peer.specs.declared.record.Record.{Record}
@@ -25,14 +23,15 @@ use Rattle.peer.specs.declared.refuse.Others.{Others}
 use Rattle.peer.specs.declared.settings.Settings.{Settings}
 use Rattle.table.specs.Ask.{mayAsk, noPlace, refusalsAt}
 use Rattle.table.specs.Refusals.{firstOf}
-use Rattle.table.specs.Exactly.{someOf, peerHas, otherHas, hasExchange, underWayAlready, noMatch, peerHeld, noRoom, askRefusals}
-use Rattle.table.specs.Fit.{crowdOf, distinctOf, sparseOf, wellFormed}
+use Rattle.table.specs.Exactly.{peerHas, otherHas, hasExchange, underWayAlready, noMatch, peerHeld, noRoom, askRefusals}
+use Rattle.table.specs.Fit.{crowdOf, distinctOf, linksApart, sparseOf, wellFormed}
 use Rattle.table.specs.Others.{othersOf}
-use Rattle.table.specs.Places.{addressesOf, allOf, countOf, findOf, onFound}
+use Rattle.table.specs.Places.{addressesOf, allOf, countOf, findLinkOf, findOf, isFound, linkAddressesOf, onFound, someOf}
 use Rattle.table.specs.Seat.{peerOf}
 use Rattle.table.specs.declared.rules.seat.Found.{Found}
 use Rattle.table.specs.declared.rules.seat.Found.the-variants.{At, Nothing}
-use Rattle.table.proofs.Passes.Lists.{first-at, first-none, get-map}
+use Rattle.table.proofs.Passes.Lists.{first-none}
+use Rattle.table.proofs.Theorems.Well.{found-address}
 use Rattle.table.proofs.Theorems.WordedPrimitives.{by-number, roles-same, may-same}
 use Rattle.table.proofs.Theorems.WordedRecords.{some-none, some-at, some-count, other-same, valid-named, some-free}
 
@@ -47,34 +46,30 @@ not-leb n = by-bool (leb 3 n)
     (λ e. rw (e, le-ltb n 3 (leb-true 3 n e)))
     (λ e. rw (e, lt-ltb n 3 (leb-false 3 n e)))
 
-record Facts (s : Settings) (t : List Record) : Type 0 where
-  places : allOf (placeFits s) t ≡ true
-  distinct : distinctOf (addressesOf t) ≡ true
-  joined : roleAnswers (s .role) ≡ false → countOf isJoined t ≤ 1
+pub record Facts (s : Settings) (t : List Record) : Type 0 where
+  pub places : allOf (placeFits s) t ≡ true
+  pub distinct : distinctOf (addressesOf t) ≡ true
+  pub apart : linksApart (linkAddressesOf t) (addressesOf t) ≡ true
+  pub joined : roleAnswers (s .role) ≡ false → countOf isJoined t ≤ 1
 
-facts : (s : Settings) (t : List Record) → wellFormed s t ≡ true → Facts s t
+pub facts : (s : Settings) (t : List Record) → wellFormed s t ≡ true → Facts s t
 unfolding wellFormed sparseOf crowdOf
 facts s t h =
     let b = both (allOf (placeFits s) t) _ (both (settingsFit s) _ h .1) in
     let c = both (distinctOf (addressesOf t)) _ (b .1) in
+    let d = both (linksApart (linkAddressesOf t) (addressesOf t)) _ (c .1) in
     record {
       places = b .0;
       distinct = c .0;
-      joined = λ r. leb-true (countOf isJoined t) 1 (both (leb (countOf isJoined t) 1) _ (rw r at (c .1)) .0);
+      apart = d .0;
+      joined = λ r. leb-true (countOf isJoined t) 1 (both (leb (countOf isJoined t) 1) _ (rw r at (d .1)) .0);
     }
 
 module _ (s : Settings) (t : List Record) (w : Facts s t) (a : ℕ) (v : validOf a ≡ true) where
   named : eqb a 0 ≡ false
   named = valid-named a v
 
-  found : (i : ℕ) → findOf (addressesOf t) a ≡ At i → getD t i freeOf .address ≡ a
-  found i e =
-      let k = first-at (λ (b : ℕ). eqb b a) 0 (addressesOf t) 0 i e in
-      let at-i : i - 0 ≡ i = omega arith in
-      let b : eqb (getD (addressesOf t) i 0) a ≡ true = rw at-i at (k .1) in
-      sym (get-map (λ (p : Record). p .address) t i freeOf) ∙ eqb-true _ a b
-
-  abbrev peer : Record
+  abbrev pub peer : Record
   peer = peerOf t (findOf (addressesOf t) a) a
 
   abbrev others : Others
@@ -86,22 +81,22 @@ module _ (s : Settings) (t : List Record) (w : Facts s t) (a : ℕ) (v : validOf
     where
       go : (at : Found) → findOf (addressesOf t) a ≡ at → peerOf t at a .address ≡ a
       go Nothing e = refl
-      go (At i) e = found i e
+      go (At i) e = found-address t a i e
 
   -- what some record of the peer's passes, the peer's record passes, where a fresh one does not
-  has-peer : (f : Record → Bool) → f (freshOf a) ≡ false → peerHas t a f ≡ f peer
+  pub has-peer : (f : Record → Bool) → f (freshOf a) ≡ false → peerHas t a f ≡ f peer
   has-peer f none = go (findOf (addressesOf t) a) refl
     where
       go : (at : Found) → findOf (addressesOf t) a ≡ at → peerHas t a f ≡ f (peerOf t at a)
       go Nothing e = some-none a f t (first-none (λ (b : ℕ). eqb b a) (addressesOf t) 0 e) ∙ sym none
-      go (At i) e = some-at a f named t i (w .distinct) (found i e)
+      go (At i) e = some-at a f named t i (w .distinct) (found-address t a i e)
 
-  has-record : peerHas t a (λ p. true) ≡ onFound (findOf (addressesOf t) a) false (λ i. true)
+  pub has-record : peerHas t a (λ p. true) ≡ onFound (findOf (addressesOf t) a) false (λ i. true)
   has-record = go (findOf (addressesOf t) a) refl
     where
       go : (at : Found) → findOf (addressesOf t) a ≡ at → peerHas t a (λ p. true) ≡ onFound at false (λ i. true)
       go Nothing e = some-none a (λ p. true) t (first-none (λ (b : ℕ). eqb b a) (addressesOf t) 0 e)
-      go (At i) e = some-at a (λ p. true) named t i (w .distinct) (found i e)
+      go (At i) e = some-at a (λ p. true) named t i (w .distinct) (found-address t a i e)
 
   record Same (q : ℕ) : Type 0 where
     nine : underWayAlready t q a ≡ conflictOf peer others q
@@ -187,7 +182,7 @@ module _ (s : Settings) (t : List Record) (w : Facts s t) (a : ℕ) (v : validOf
 abbrev pub ruledAt : Settings → List Record → List ℕ → ℕ → ℕ → ℕ → List (ℕ × Bool)
 ruledAt s t ads q a c =
     let at = findOf ads a in
-    refusalsAt s (peerOf t at a) (othersOf s t) at (findOf ads 0) q a c
+    refusalsAt s (peerOf t at a) (othersOf s t) at (findOf ads 0) (findLinkOf t a) q a c
 
 abbrev pub ruledList : Settings → List Record → ℕ → ℕ → ℕ → ℕ → List (ℕ × Bool)
 ruledList s t q a c n =
@@ -201,11 +196,11 @@ unfolding firstOf mayAsk
 worded s t q a c n =
     by-bool (ltb n longest) (λ e. rw e) (λ e.
     by-bool (wellFormed s t) (λ f.
-    rw (e, f, may-same s q a c) (by-bool (mayAsk s q a c) (λ g.
+    rw (e, f, may-same s t q a c) (by-bool (not (mayAsk s q a c) || isFound (findLinkOf t a)) (λ g. rw g) (λ g.
+    let may = not-false _ (or-left (not (mayAsk s q a c)) _ g .0) in
     rw (g, roles-same (s .role) q) (by-bool (roleAllowed q (s .role)) (λ h.
-    let valid : validOf a ≡ true = and-right (not (eqb a (s .own))) _ (and-right (codeAllowed q c) _ g) in
+    let valid : validOf a ≡ true = and-right (not (eqb a (s .own))) _ (and-right (codeAllowed q c) _ may) in
     let k = agree s t (facts s t f) a valid q h in
     rw (h, k .nine, k .seven, k .eight, k .six))
-    (λ h. rw h)))
-    (λ g. rw g)))
+    (λ h. rw h)))))
     (λ f. rw (e, f)))

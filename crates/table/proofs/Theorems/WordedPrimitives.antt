@@ -4,6 +4,7 @@
 use Prim.Native.Nat.{ℕ}
 use mathlib.Core.Path.{_≡_, refl, sym}
 use mathlib.Core.Bool.{Bool, true, false, not, _&&_, _||_, or-false}
+use mathlib.Core.List.{List}
 use lib.Dec.{eqb, leb}
 use borrow.Author.Tests.{eqb-true}
 use Rattle.octets.proofs.Branch.{by-bool}
@@ -11,9 +12,13 @@ use Rattle.octets.specs.Address.{validOf}
 use Rattle.peer.proofs.Fits.{wrong}
 use Rattle.peer.specs.Refuse.{codeAllowed, roleAllowed}
 use Rattle.peer.specs.Settings.{ap, roleAnswers, roleAsks, roleAssociates, station}
+use Rattle.peer.specs.declared.record.Record.{Record}
 use Rattle.peer.specs.declared.settings.Settings.{Settings}
 use Rattle.table.specs.Ask.{mayAsk}
-use Rattle.table.specs.Exactly.{someOf, row, taken, plays, notToBeAsked}
+use Rattle.table.specs.Exactly.{row, taken, plays, notToBeAsked}
+use Rattle.table.specs.Places.{findLinkOf, isFound, someOf}
+use Rattle.table.proofs.Passes.LinkLaws.{link-some}
+use Rattle.table.proofs.Theorems.WordedRecords.{valid-named}
 
 -- ---- eleven numbers
 
@@ -74,14 +79,21 @@ roles-same role =
     one : (b : Bool) → (not b || false) ≡ not b
     one b = or-false (not b)
 
-pub may-same : (s : Settings) (q a c : ℕ) → notToBeAsked s q a c ≡ not (mayAsk s q a c)
+-- where its address is no link's
+pub may-same : (s : Settings) (t : List Record) (q a c : ℕ) → notToBeAsked s t q a c ≡ (not (mayAsk s q a c) || isFound (findLinkOf t a))
 unfolding mayAsk
-may-same s q a c = regroup (not (row q (λ r. true))) (validOf a) (eqb a (s .own)) (row q (λ r. not (taken (r .codes) c))) (codeAllowed q c) (codes-same c q)
+may-same s t q a c =
+    by-bool (validOf a)
+    (λ v. rw (v, link-some t a (valid-named a v)) (regroup (not (row q (λ r. true))) (eqb a (s .own)) (row q (λ r. not (taken (r .codes) c))) (codeAllowed q c) (isFound (findLinkOf t a)) (codes-same c q)))
+    (λ v. rw v (invalid (isFound (findLinkOf t a)) (not (row q (λ r. true))) (eqb a (s .own)) (codeAllowed q c)))
   where
-    regroup : (u v o w k : Bool) → (u || w) ≡ not k → (u || (not v || (o || w))) ≡ not (k && (not o && v))
-    regroup true v o w true e = wrong (sym e)
-    regroup true v o w false e = refl
-    regroup false true true w true e = refl
-    regroup false true false w true e = e
-    regroup false false o w true e = by-bool o (λ b. rw b) (λ b. rw b)
-    regroup false v o w false e = by-bool v (λ b. by-bool o (λ d. rw (b, d)) (λ d. rw (b, d) e)) (λ b. rw b)
+    regroup : (u o w k h : Bool) → (u || w) ≡ not k → (u || (o || (w || h))) ≡ (not (k && (not o && true)) || h)
+    regroup true o w true h e = wrong (sym e)
+    regroup true o w false h e = refl
+    regroup false true w true h e = refl
+    regroup false false w true h e = rw e
+    regroup false o w false h e = by-bool o (λ d. rw d) (λ d. rw (d, e))
+
+    invalid : (h u o k : Bool) → (u || true) ≡ (not (k && (not o && false)) || h)
+    invalid h u o true = by-bool u (λ d. by-bool o (λ e. rw (d, e)) (λ e. rw (d, e))) (λ d. by-bool o (λ e. rw (d, e)) (λ e. rw (d, e)))
+    invalid h u o false = by-bool u (λ d. rw d) (λ d. rw d)

@@ -16,10 +16,10 @@ use Rattle.peer.specs.Fit.{placeFits}
 use Rattle.peer.specs.Record.{freeOf, isFree, isJoined}
 use Rattle.peer.specs.declared.record.Record.{Record}
 use Rattle.peer.specs.declared.settings.Settings.{Settings}
-use Rattle.table.specs.Exactly.{someOf, peerHas, otherHas}
+use Rattle.table.specs.Exactly.{peerHas, otherHas}
 use Rattle.table.specs.Fit.{aloneIn, apart, distinctOf}
 use Rattle.table.specs.Others.{associatedOf}
-use Rattle.table.specs.Places.{addressesOf, allTails, allOf, countOf, firstFrom, onFound}
+use Rattle.table.specs.Places.{addressesOf, allTails, allOf, countOf, firstFrom, onFound, someOf}
 
 -- ---- some record of a list
 
@@ -103,7 +103,7 @@ pub valid-named : (a : ℕ) → validOf a ≡ true → eqb a 0 ≡ false
 unfolding validOf
 valid-named a v = not-true (eqb a 0) (and-left (not (eqb a 0)) _ v)
 
-free-address : (s : Settings) (p : Record) → placeFits s p ≡ true → isFree p ≡ eqb (p .address) 0
+pub free-address : (s : Settings) (p : Record) → placeFits s p ≡ true → isFree p ≡ eqb (p .address) 0
 unfolding placeFits
 free-address s p h = by-bool (isFree p)
     (λ e. rw (e, free-zero p e))

@@ -24,6 +24,7 @@ use Rattle.table.specs.Answer.{settledOf, refusedOf, saidLength, saidIn,
 use Rattle.table.specs.Refusals.{firstOf, unless}
 use Rattle.table.specs.Receive.{receivedOf}
 use Rattle.table.specs.Ask.{askedOf}
+use Rattle.table.specs.Link.{linkedOf}
 use Rattle.table.specs.Pass.{reportsOf, passRefusals, clockedOf, passedOf, passedIn}
 use Rattle.table.specs.Step.{stepOf, stepIn}
 use Rattle.table.specs.Exactly.{NoneHolds}
@@ -64,6 +65,10 @@ asked-silent : (s : Settings) (t : List Record) (q a c n : ℕ) → ltb n longes
 unfolding askedOf firstOf unless refusedOf settledOf
 asked-silent s t q a c n e = rw e
 
+linked-silent : (s : Settings) (t : List Record) (xs : List ℕ) (n : ℕ) → ltb n longest ≡ true → linkedOf s t xs n .reply ≡ Silent
+unfolding linkedOf firstOf unless refusedOf settledOf
+linked-silent s t xs n e = rw e
+
 -- ---- a clock step
 
 -- what is not refused has room for the reports of 32 places
@@ -93,4 +98,5 @@ pub written-count : (s : Settings) (t : List Record) (e : Event) (xs l : List �
 unfolding steppedOf
 written-count s t event.Frame xs l h = reply-written (receivedOf s t xs (length l) .reply) l (received-silent s t xs (length l))
 written-count s t (event.Ask q a c) xs l h = reply-written (askedOf s t q a c (length l) .reply) l (asked-silent s t q a c (length l))
+written-count s t event.Links xs l h = reply-written (linkedOf s t xs (length l) .reply) l (linked-silent s t xs (length l))
 written-count s t (event.Clock d) xs l h = passed-written s t d xs l h

@@ -1,8 +1,9 @@
-// The boundary to C: the three calls with numbers and slices alone, the same on every processor. `include/peer_table.h` declares them.
+// The boundary to C: the four calls with numbers and slices alone, the same on every processor. `include/peer_table.h` declares them.
 // Settings in 12, 14, 18 or 24 octets, or refusal 2; at least 24 for the answer, or refusal 1 and nothing is written. The result is the refusal's number.
 use crate::host::calls::ask;
 use crate::host::calls::pass;
 use crate::host::calls::receive;
+use crate::host::link::link;
 use crate::host::settings::settings_in;
 use crate::rules::answer::Answer;
 use octets::answer::write_answer;
@@ -64,6 +65,24 @@ pub extern "C" fn peer_ask_octets(
         return 1;
     }
     let a = ask(table, settings_in(settings), primitive, address, code, out);
+    told(a, answer)
+}
+
+// The links of a device: its address, their count, and they, six octets each.
+#[no_mangle]
+pub extern "C" fn peer_links_octets(
+    table: &mut [u8],
+    settings: &[u8],
+    named: &[u8],
+    out: &mut [u8],
+    answer: &mut [u8],
+) -> u64
+    ensures { λ r. ⌜ crossed r (now (table .exit)) (now (out .exit)) (now (answer .exit)) ≡ crossedOf (now (table .entry)) (now (settings .entry)) event.Links (now (named .entry)) (now (out .entry)) (now (answer .entry)) ⌝ }
+{
+    if answer.len() < 24 { // No room for the answer of links named.
+        return 1;
+    }
+    let a = link(table, settings_in(settings), named, out);
     told(a, answer)
 }
 

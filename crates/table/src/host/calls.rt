@@ -1,9 +1,11 @@
-// The three calls over a table of 768 octets, as a host lends it; settings and answer by value.
+// The calls over a table of 1536 octets, as a host lends it; settings and answer by value.
 use crate::host::rows::clock;
 use crate::host::rows::find;
 use crate::host::rows::met;
 use crate::host::rows::peer_at;
 use crate::host::rows::vacancy;
+use crate::host::seek::find_link;
+use crate::host::seek::seek;
 use crate::host::survey::survey;
 use crate::rules::answer::Answer;
 use crate::rules::ask::asked_at;
@@ -28,14 +30,14 @@ ghost use Rattle.table.specs.Ask.{askedAt};
 ghost use Rattle.table.specs.Others.{othersOf};
 ghost use Rattle.table.specs.Places.{addressesOf};
 ghost use Rattle.table.specs.Receive.{heardAt};
-ghost use Rattle.table.specs.Rows.{recordsOf};
+ghost use Rattle.table.specs.Rows.{linkedIn, recordsOf};
 ghost use Rattle.table.specs.Seat.{metOf};
 ghost use Rattle.table.specs.declared.rules.event.Event.the-variants as event;
 
 // A frame that was read.
-fn heard_at(s: Settings, table: &[u8], r: Reading) -> Change
-    requires { ⌜ length (now table) ≡ 768 ⌝ }
-    ensures { λ c. ⌜ metOf (recordsOf (now (table .entry))) c ≡ heardAt s (recordsOf (now (table .entry))) (addressesOf (recordsOf (now (table .entry)))) r ⌝ }
+fn heard_at(s: Settings, table: &[u8], linked: bool, r: Reading) -> Change
+    requires { ⌜ length (now table) ≡ 1536 ⌝ }
+    ensures { λ c. ⌜ (linked ≡ linkedIn (recordsOf (now (table .entry))) → metOf (recordsOf (now (table .entry))) c ≡ heardAt s (recordsOf (now (table .entry))) (addressesOf (recordsOf (now (table .entry)))) r) ⌝ }
 {
     match r {
         Reading::Refused(n) => refused(n),
@@ -47,12 +49,13 @@ fn heard_at(s: Settings, table: &[u8], r: Reading) -> Change
             class,
             heard,
         } => {
-            let at = find(table, peer);
+            let at = seek(table, linked, peer);
             heard_from(
                 s,
                 vacancy(table, at),
                 at,
                 peer_at(table, at, peer),
+                peer,
                 group,
                 class,
                 heard,
@@ -62,15 +65,24 @@ fn heard_at(s: Settings, table: &[u8], r: Reading) -> Change
 }
 
 // A primitive, by what it asks of the whole table.
-fn asked_in(s: Settings, table: &[u8], o: Others, primitive: u8, address: u64, code: u16) -> Change
-    requires { ⌜ length (now table) ≡ 768 ⌝ }
-    ensures { λ c. ⌜ (o ≡ othersOf s (recordsOf (now (table .entry))) → metOf (recordsOf (now (table .entry))) c ≡ askedAt s (recordsOf (now (table .entry))) (addressesOf (recordsOf (now (table .entry)))) primitive address code) ⌝ }
+fn asked_in(
+    s: Settings,
+    table: &[u8],
+    linked: bool,
+    o: Others,
+    primitive: u8,
+    address: u64,
+    code: u16,
+) -> Change
+    requires { ⌜ length (now table) ≡ 1536 ⌝ }
+    ensures { λ c. ⌜ (linked ≡ linkedIn (recordsOf (now (table .entry))) → o ≡ othersOf s (recordsOf (now (table .entry))) → metOf (recordsOf (now (table .entry))) c ≡ askedAt s (recordsOf (now (table .entry))) (addressesOf (recordsOf (now (table .entry)))) primitive address code) ⌝ }
 {
     let at = find(table, address);
     asked_at(
         s,
         vacancy(table, at),
         at,
+        find_link(table, linked, address),
         peer_at(table, at, address),
         o,
         primitive,
@@ -86,15 +98,15 @@ pub fn receive(table: &mut [u8], s: Settings, frame: &[u8], out: &mut [u8]) -> A
     if out.len() < Frame::LONGEST {
         return Answer::refusal(1);
     }
-    if table.len() != 768 {
+    if table.len() != 1536 {
         return Answer::refusal(2);
     }
     let v = survey(s, &*table);
     if v.well {} else {
         return Answer::refusal(2);
     }
-    let c = heard_at(s, &*table, read(s.own, associates(s.role), frame));
-    met(table, c);
+    let c = heard_at(s, &*table, v.linked, read(s.own, associates(s.role), frame));
+    met(table, c, false);
     let answer = c.answer;
     let reply = c.reply;
     answered(answer, reply, out)
@@ -114,7 +126,7 @@ pub fn ask(
     if out.len() < Frame::LONGEST {
         return Answer::refusal(1);
     }
-    if table.len() != 768 {
+    if table.len() != 1536 {
         return Answer::refusal(2);
     }
     let v = survey(s, &*table);
@@ -122,8 +134,8 @@ pub fn ask(
         return Answer::refusal(2);
     }
     let o = others(s, v.associated, v.crowd);
-    let c = asked_in(s, &*table, o, primitive, address, code);
-    met(table, c);
+    let c = asked_in(s, &*table, v.linked, o, primitive, address, code);
+    met(table, c, false);
     let answer = c.answer;
     let reply = c.reply;
     answered(answer, reply, out)
@@ -136,7 +148,7 @@ pub fn pass(table: &mut [u8], s: Settings, step: u16, out: &mut [u8]) -> Answer
     if out.len() < 256 {
         return Answer::refusal(1);
     }
-    if table.len() != 768 {
+    if table.len() != 1536 {
         return Answer::refusal(2);
     }
     let v = survey(s, &*table);

@@ -1,8 +1,11 @@
-// Whether a row is well formed by itself: tested by its numbers, without making a record of it.
+// Whether a row is well formed by itself, and its links: tested by its numbers, without making a record of it.
 use octets::address::valid;
 use octets::row::Row;
+use octets::row::linkless_at;
+use octets::row::row_at;
 use peer::fit::highest;
 use peer::fit::hold_fits;
+use peer::fit::links_stand;
 use peer::record::Record;
 use peer::settings::Settings;
 use peer::settings::answers;
@@ -11,12 +14,17 @@ use peer::settings::associates;
 ghost use mathlib.Core.Path.{_≡_};
 ghost use mathlib.Core.Bool.{true, false, not, _&&_};
 ghost use lib.Dec.{eqb, leb, ltb};
+ghost use lib.ListN.{length};
+ghost use Prim.Native.Nat.{_+_, _≤_};
 ghost use Rattle.octets.specs.Pick.{pick};
-ghost use Rattle.peer.specs.Fit.{exchangeFits, queryFits, recordFits};
+ghost use Rattle.octets.specs.Links.{unlinked};
+ghost use Rattle.octets.specs.Row.{rowAt};
+ghost use Rattle.peer.specs.Fit.{exchangeFits, linksFit, queryFits, recordFits};
 ghost use Rattle.peer.specs.Query.{queryOf};
-ghost use Rattle.peer.specs.Record.{associates, exchangeOf, underWay};
+ghost use Rattle.peer.specs.Record.{associates, exchangeOf, linkedOf, underWay};
 ghost use Rattle.peer.specs.Settings.{roleAnswers, roleAsks, settingsFit};
-ghost use Rattle.table.specs.Rows.{queryNumbered, recordOf, rowNumbered};
+ghost use Rattle.table.specs.Places.{allOf};
+ghost use Rattle.table.specs.Rows.{queryNumbered, recordOf, recordsOf, rowNumbered};
 
 // Whether a row is well formed by itself, and whether it has a (re)association under way.
 pub struct Standing {
@@ -107,10 +115,10 @@ fn query_standing(s: Settings, state: u8, query: u32, remaining: u16) -> bool
     remaining <= s.maximum
 }
 
-// A row that is not free.
+// A row that is not free, as if it had no links.
 pub(crate) fn row_standing(s: Settings, r: Row) -> Standing
     requires { ⌜ settingsFit s ≡ true ⌝ }
-    ensures { λ x. ⌜ (x .fit ≡ (rowNumbered r && recordFits s (recordOf r))) × (x .fit ≡ true → x .associating ≡ associates (recordOf r)) ⌝ }
+    ensures { λ x. ⌜ (x .fit ≡ (rowNumbered r && recordFits s (linkedOf (recordOf r) unlinked))) × (x .fit ≡ true → x .associating ≡ associates (recordOf r)) ⌝ }
 {
     if r.state < Record::STATE_1 {
         return alone(false);
@@ -131,4 +139,35 @@ pub(crate) fn row_standing(s: Settings, r: Row) -> Standing
         return alone(false);
     }
     exchange_standing(s.role, r.exchange, r.state, r.left)
+}
+
+// The links of a row: none, or at an access point.
+fn links_standing(s: Settings, table: &[u8], at: usize) -> bool
+    requires { ⌜ at + 48 ≤ length (now table) ⌝ }
+    ensures { λ r. ⌜ r ≡ linksFit s (recordOf (rowAt at (now (table .entry)))) ⌝ }
+{
+    if linkless_at(table, at) {
+        return true;
+    }
+    if s.role != Settings::AP {
+        return false;
+    }
+    let r = row_at(table, at);
+    let links = r.links;
+    links_stand(s.own, r.address, links)
+}
+
+// The links of all rows.
+pub(crate) fn all_links_standing(s: Settings, table: &[u8]) -> bool
+    requires { ⌜ length (now table) ≡ 1536 ⌝ }
+    ensures { λ r. ⌜ r ≡ allOf (linksFit s) (recordsOf (now (table .entry))) ⌝ }
+{
+    let mut i = 0;
+    while i < 32 {
+        if links_standing(s, table, 48 * i) {} else {
+            return false;
+        }
+        i += 1;
+    }
+    true
 }

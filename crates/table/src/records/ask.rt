@@ -2,6 +2,7 @@
 use crate::records::fit::survey;
 use crate::records::fit::well;
 use crate::records::places::find;
+use crate::records::places::find_link;
 use crate::records::seat::finish;
 use crate::records::seat::met;
 use crate::records::seat::peer_at;
@@ -34,7 +35,7 @@ fn asked(
     }
     let v = survey(s, t);
     let addresses = v.addresses;
-    if well(s, v.fit, v.crowd, &addresses) {} else {
+    if well(s, t, v.fit, v.crowd, &addresses) {} else {
         return refused(2);
     }
     let at = find(&addresses, address);
@@ -43,6 +44,7 @@ fn asked(
         s,
         find(&addresses, 0),
         at,
+        find_link(t, address),
         peer_at(t, at, address),
         o,
         primitive,

@@ -1,5 +1,6 @@
 // Whether settings and table are well formed: one pass over the table finds all that the rules ask of it.
-use crate::records::distinct::distinct;
+use crate::records::apart::links_apart;
+use crate::rules::distinct::distinct;
 use crate::rules::others::Counts;
 use crate::rules::others::counted;
 use crate::rules::others::first_joined;
@@ -12,9 +13,9 @@ ghost use mathlib.Core.Bool.{_&&_, _||_};
 ghost use lib.Dec.{leb};
 ghost use Rattle.peer.specs.Fit.{placeFits};
 ghost use Rattle.peer.specs.Settings.{roleAnswers, settingsFit};
-ghost use Rattle.table.specs.Places.{allOf, addressesOf};
+ghost use Rattle.table.specs.Places.{allOf, addressesOf, linkAddressesOf};
 ghost use Rattle.table.specs.Others.{associatedOf};
-ghost use Rattle.table.specs.Fit.{crowdOf, distinctOf, wellFormed};
+ghost use Rattle.table.specs.Fit.{crowdOf, distinctOf, linksApart, wellFormed};
 
 // What one pass finds.
 pub struct View {
@@ -63,8 +64,8 @@ pub fn survey(s: Settings, t: [Record; 32]) -> View
 }
 
 // Whether all is well formed, by what one pass found.
-pub fn well(s: Settings, fit: bool, crowd: Counts, addresses: &[u64]) -> bool
-    ensures { λ r. ⌜ r ≡ (settingsFit s && (fit && (distinctOf (now (addresses .entry)) && (roleAnswers (s .role) || (leb (crowd .joined) 1 && leb (crowd .associating) 1))))) ⌝ }
+pub fn well(s: Settings, t: [Record; 32], fit: bool, crowd: Counts, addresses: &[u64]) -> bool
+    ensures { λ r. ⌜ r ≡ (settingsFit s && (fit && (distinctOf (now (addresses .entry)) && (linksApart (linkAddressesOf t) (now (addresses .entry)) && (roleAnswers (s .role) || (leb (crowd .joined) 1 && leb (crowd .associating) 1)))))) ⌝ }
 {
     if s.fit() {} else {
         return false;
@@ -72,7 +73,10 @@ pub fn well(s: Settings, fit: bool, crowd: Counts, addresses: &[u64]) -> bool
     if fit {} else {
         return false;
     }
-    if distinct(addresses) {
+    if distinct(addresses) {} else {
+        return false;
+    }
+    if links_apart(t, addresses) {
         sparse(s, crowd)
     } else {
         false
@@ -84,5 +88,5 @@ pub fn well_formed(s: Settings, t: [Record; 32]) -> bool
 {
     let v = survey(s, t);
     let addresses = v.addresses;
-    well(s, v.fit, v.crowd, &addresses)
+    well(s, t, v.fit, v.crowd, &addresses)
 }

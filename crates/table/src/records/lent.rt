@@ -15,6 +15,7 @@ fn room(e: Event) -> usize
     match e {
         Event::Frame => Frame::LONGEST,
         Event::Ask { .. } => Frame::LONGEST,
+        Event::Links => Frame::LONGEST,
         Event::Clock(_) => 256,
     }
 }

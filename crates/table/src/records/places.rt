@@ -7,7 +7,7 @@ ghost use mathlib.Core.List.{map};
 ghost use lib.ListN.{getD, set};
 ghost use Rattle.peer.specs.Record.{freeOf};
 ghost use Rattle.peer.specs.Association.{partedOf};
-ghost use Rattle.table.specs.Places.{findOf};
+ghost use Rattle.table.specs.Places.{findLinkOf, findOf, firstFrom, hasLink, seekOf};
 
 // The lowest place with an address. Of 0: the lowest free place.
 pub fn find(addresses: &[u64], address: u64) -> Found
@@ -21,6 +21,45 @@ pub fn find(addresses: &[u64], address: u64) -> Found
         i += 1;
     }
     Found::Nothing
+}
+
+// The walk over places and links ends at the first match.
+fn first_link(t: [Record; 32], address: u64) -> Found
+    ensures { λ r. ⌜ r ≡ firstFrom (hasLink address) 0 t ⌝ }
+{
+    let mut found = Found::Nothing;
+    'search: for i in 0..32 {
+        let p = t[i];
+        let links = p.links;
+        for j in 0..4 {
+            if links.at(j) == address {
+                found = Found::At(i);
+                break 'search;
+            }
+        }
+    }
+    found
+}
+
+// The lowest place that has an address among its links. Of 0: none.
+pub fn find_link(t: [Record; 32], address: u64) -> Found
+    ensures { λ r. ⌜ r ≡ findLinkOf t address ⌝ }
+{
+    if address == 0 {
+        return Found::Nothing;
+    }
+    first_link(t, address)
+}
+
+// The place of a frame's Address 2: among the links first, then the devices.
+pub fn seek(t: [Record; 32], addresses: &[u64], address: u64) -> Found
+    ensures { λ r. ⌜ r ≡ seekOf t (now (addresses .entry)) address ⌝ }
+{
+    let link = find_link(t, address);
+    match link {
+        Found::At(i) => Found::At(i),
+        Found::Nothing => find(addresses, address),
+    }
 }
 
 // The record at a place, or a free one where there is no such place.

@@ -2,6 +2,7 @@
 use crate::records::fit::survey;
 use crate::records::fit::well;
 use crate::records::places::find;
+use crate::records::places::seek;
 use crate::records::seat::finish;
 use crate::records::seat::met;
 use crate::records::seat::peer_at;
@@ -38,12 +39,13 @@ fn heard_at(s: Settings, t: [Record; 32], addresses: &[u64], r: Reading) -> Chan
             class,
             heard,
         } => {
-            let at = find(addresses, peer);
+            let at = seek(t, addresses, peer);
             heard_from(
                 s,
                 find(addresses, 0),
                 at,
                 peer_at(t, at, peer),
+                peer,
                 group,
                 class,
                 heard,
@@ -60,7 +62,7 @@ fn received(s: Settings, t: [Record; 32], frame: &[u8], room: usize) -> Change
     }
     let v = survey(s, t);
     let addresses = v.addresses;
-    if well(s, v.fit, v.crowd, &addresses) {} else {
+    if well(s, t, v.fit, v.crowd, &addresses) {} else {
         return refused(2);
     }
     heard_at(s, t, &addresses, read(s.own, associates(s.role), frame))

@@ -1,5 +1,6 @@
-// One event over records by value: a frame, a primitive or a clock step.
+// One event over records by value: a frame, a primitive, a device's links or a clock step.
 use crate::records::ask::ask;
+use crate::records::link::link;
 use crate::records::pass::pass;
 use crate::records::receive::receive;
 use crate::rules::answer::Stepped;
@@ -21,6 +22,7 @@ pub fn step(s: Settings, t: [Record; 32], e: Event, frame: &[u8], out: &mut [u8]
             address,
             code,
         } => ask(s, t, primitive, address, code, out),
+        Event::Links => link(s, t, frame, out),
         Event::Clock(d) => pass(s, t, d, out),
     }
 }

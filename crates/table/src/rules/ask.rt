@@ -63,16 +63,20 @@ fn refusal(
     s: Settings,
     free: Found,
     at: Found,
+    link: Found,
     p: Record,
     o: Others,
     primitive: u8,
     address: u64,
     code: u16,
 ) -> u8
-    ensures { λ r. ⌜ r ≡ firstOf (refusalsAt s p o at free primitive address code) ⌝ }
+    ensures { λ r. ⌜ r ≡ firstOf (refusalsAt s p o at free link primitive address code) ⌝ }
 {
     if may_ask(s, primitive, address, code) {} else {
         return 3;
+    }
+    if link.is_found() {
+        return 3; // 02, K11: primitives name the device
     }
     if role_allowed(primitive, s.role) {} else {
         return 5;
@@ -92,24 +96,25 @@ fn refusal(
     0
 }
 
-// A primitive to a peer that was found at a place, or nowhere, with the lowest free place.
+// A primitive to a peer that was found at a place, or nowhere, with the lowest free place, and where its address is a link's.
 pub(crate) fn asked_at(
     s: Settings,
     free: Found,
     at: Found,
+    link: Found,
     p: Record,
     o: Others,
     primitive: u8,
     address: u64,
     code: u16,
 ) -> Change
-    ensures { λ r. ⌜ ((t : List Peer) → metOf t r ≡ askedBy s t p o at free primitive address code) ⌝ }
+    ensures { λ r. ⌜ ((t : List Peer) → metOf t r ≡ askedBy s t p o at free link primitive address code) ⌝ }
 {
-    let n = refusal(s, free, at, p, o, primitive, address, code);
+    let n = refusal(s, free, at, link, p, o, primitive, address, code);
     if n != 0 {
         return refused(n);
     }
-    let turn = peer::ask::ask(s, aid(at), p, o, primitive, code);
+    let turn = peer::ask::ask(s, aid(at), p, o, primitive, code).towards(p.spoken_at());
     // The other turn is not needed: without a free place refusal 6 came first.
     turn_in(free, at, turn, turn)
 }

@@ -8,6 +8,8 @@ pub enum Event {
         address: u64,
         code: u16,
     },
+    // The links of a device, primitive 12: its address, their count, and they, in octets lent beside the event.
+    Links,
     // A clock step in TU.
     Clock(u16),
 }

@@ -12,20 +12,27 @@ ghost use mathlib.Core.Path.{_≡_};
 ghost use mathlib.Core.List.{List};
 ghost use Rattle.peer.specs.Authentication.{fullOf};
 ghost use Rattle.peer.specs.Hear.{hearOf};
+ghost use Rattle.peer.specs.Turn.{towardsOf};
 ghost use Rattle.peer.specs.declared.record.Record.{Record as Peer};
 ghost use Rattle.table.specs.Seat.{metOf, turnIn};
 
-// A frame from a peer that was found at a place, or nowhere, with the lowest free place.
+// A frame from an address of a peer that was found at a place, or nowhere, with the lowest free place. A reply goes to that address.
 pub(crate) fn heard_from(
     s: Settings,
     free: Found,
     at: Found,
     p: Record,
+    from: u64,
     group: bool,
     class: FrameClass,
     h: Heard,
 ) -> Change
-    ensures { λ r. ⌜ ((t : List Peer) → metOf t r ≡ turnIn t at free (hearOf s p class group h) (fullOf s p)) ⌝ }
+    ensures { λ r. ⌜ ((t : List Peer) → metOf t r ≡ turnIn t at free (towardsOf from (hearOf s p class group h)) (towardsOf from (fullOf s p))) ⌝ }
 {
-    turn_in(free, at, hear(s, p, class, group, h), full(s, p))
+    turn_in(
+        free,
+        at,
+        hear(s, p, class, group, h).towards(from),
+        full(s, p).towards(from),
+    )
 }

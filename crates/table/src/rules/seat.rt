@@ -10,11 +10,23 @@ ghost use mathlib.Core.List.{List};
 ghost use lib.ListN.{length};
 ghost use Rattle.peer.specs.declared.record.Record.{Record as Peer};
 ghost use Rattle.table.specs.Answer.{saidLength, saidIn, settledOf, refusedOf, countAnswer};
+ghost use Rattle.table.specs.Places.{isFound};
 ghost use Rattle.table.specs.Seat.{metOf, seatedOf, strangerOf, startsOf, newcomerOf, turnIn};
 
 pub enum Found {
     At(usize),
     Nothing,
+}
+
+impl Found {
+    pub fn is_found(self) -> bool
+        ensures { λ r. ⌜ r ≡ isFound self ⌝ }
+    {
+        match self {
+            Found::At(_) => true,
+            Found::Nothing => false,
+        }
+    }
 }
 
 // What an event makes of a table, and what is said.
@@ -77,13 +89,17 @@ fn stranger(turn: Turn) -> Change
     kept(Answer::turn(turn, 0), reply)
 }
 
-// Whether a turn leaves an exchange under way, so that a stranger needs a record.
+// Whether a turn leaves an exchange under way, or links, so that a stranger needs a record.
 pub fn starts(turn: Turn) -> bool
     ensures { λ r. ⌜ r ≡ startsOf turn ⌝ }
 {
     let p = turn.peer;
     let e = p.exchange;
-    under_way(e) != 0
+    if under_way(e) != 0 {
+        return true;
+    }
+    let links = p.links;
+    if links.is_none() { false } else { true }
 }
 
 // A turn of a peer that has no record: a new one takes the lowest free place; where there is none, the other turn.

@@ -28,7 +28,11 @@ returns-2 c = search (tests, c .match .keys2)
 
 returns-3 : tie.Need-returns-3
 unfolding eventAt
-returns-3 c = search (tests, ← c .u16-at2 .ensures)
+returns-3 c = search (tests, ← c .u16-at2 .ensures, c .before .match .keys3)
+
+returns-4 : tie.Need-returns-4
+unfolding eventAt
+returns-4 c = search tests
 
 pub event-at-spec : {M : Type 1} → statement M
 event-at-spec =
@@ -40,4 +44,5 @@ event-at-spec =
     u16-at-requires-2
     returns
     returns-2
-    returns-3)
+    returns-3
+    returns-4)

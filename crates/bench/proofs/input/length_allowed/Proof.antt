@@ -31,8 +31,26 @@ returns-5 c = search (tests, c .match .keys3, c .before .if1 .left)
 
 returns-6 : tie.Need-returns-6
 unfolding lengthAllowed
-returns-6 c = search (tests, c .before .if1 .left)
+returns-6 c = search (tests, c .before .match .keys4, c .before .before .if1 .left)
+
+returns-7 : tie.Need-returns-7
+unfolding lengthAllowed
+returns-7 c = search (tests, c .before .match .keys4, c .before .before .if1 .left)
+
+returns-8 : tie.Need-returns-8
+unfolding lengthAllowed
+returns-8 c = search (tests, c .before .if1 .left)
 
 pub length-allowed-spec : {M : Type 1} → statement M
 length-allowed-spec =
-    tie.close (tie.spec settings-length-requires returns returns-2 returns-3 returns-4 returns-5 returns-6)
+    tie.close
+    (tie.spec
+    settings-length-requires
+    returns
+    returns-2
+    returns-3
+    returns-4
+    returns-5
+    returns-6
+    returns-7
+    returns-8)

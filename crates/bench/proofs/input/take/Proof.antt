@@ -2,10 +2,10 @@
 -- Assumes nothing.
 use Rattle.bench.specs.Input.{takenOf}
 use Rattle.octets.proofs.Branch.{tests}
-use borrow.Author.Needs.{needs}
 use borrow.Author.Tests.{le-ltb}
 use mathlib.Core.Path.{ap}
 use Rattle.bench.specs.declared.input.Taken.the-variants.{First, Next}
+use borrow.Author.Needs.{needs}
 use Rattle.bench.proofs.input.take.Statement.{statement}
 use Rattle.bench.proofs.input.take.Tie as tie
 
@@ -49,16 +49,23 @@ body-requires c κs = search needs
 settings-in-requires : tie.Need-settings-in-requires
 settings-in-requires c κs = search needs
 
-event-at-requires : tie.Need-event-at-requires
-event-at-requires c κs = search needs
-
 returns-5 : tie.Need-returns-5
 unfolding takenOf
 returns-5 c = rw (le-ltb _ _ (c .before .before .before .before .before .before .before .before .before .before .if1 .left), ← c .before .before .before .before .before .before .before .before .before .is-marked .ensures, c .before .before .before .before .before .before .before .before .if2 .taken, ← c .before .before .before .before .before .before .before .octet-at .ensures, ← c .before .before .before .before .before .before .u16-at .ensures, ← c .before .before .before .before .before .length-allowed .ensures, c .before .before .before .before .if3 .taken, le-ltb _ _ (c .before .before .before .if4 .left), c .before .before .if5 .taken) (ap First (rw (c .before .body .ensures) at (c .settings-in .ensures)))
 
+is-miscounted-requires : tie.Need-is-miscounted-requires
+is-miscounted-requires c κs = search needs
+
+event-at-requires : tie.Need-event-at-requires
+event-at-requires c κs = search needs
+
 returns-6 : tie.Need-returns-6
 unfolding takenOf
-returns-6 c = rw (le-ltb _ _ (c .before .before .before .before .before .before .before .before .before .if1 .left), ← c .before .before .before .before .before .before .before .before .is-marked .ensures, c .before .before .before .before .before .before .before .if2 .taken, ← c .before .before .before .before .before .before .octet-at .ensures, ← c .before .before .before .before .before .u16-at .ensures, ← c .before .before .before .before .length-allowed .ensures, c .before .before .before .if3 .taken, le-ltb _ _ (c .before .before .if4 .left), c .before .if5 .left) (ap Next (c .event-at .ensures))
+returns-6 c = rw (le-ltb _ _ (c .before .before .before .before .before .before .before .before .before .before .if1 .left), ← c .before .before .before .before .before .before .before .before .before .is-marked .ensures, c .before .before .before .before .before .before .before .before .if2 .taken, ← c .before .before .before .before .before .before .before .octet-at .ensures, ← c .before .before .before .before .before .before .u16-at .ensures, ← c .before .before .before .before .before .length-allowed .ensures, c .before .before .before .before .if3 .taken, le-ltb _ _ (c .before .before .before .if4 .left), c .before .before .if5 .left, ← c .before .is-miscounted .ensures, c .if6 .taken)
+
+returns-7 : tie.Need-returns-7
+unfolding takenOf
+returns-7 c = rw (le-ltb _ _ (c .before .before .before .before .before .before .before .before .before .before .before .if1 .left), ← c .before .before .before .before .before .before .before .before .before .before .is-marked .ensures, c .before .before .before .before .before .before .before .before .before .if2 .taken, ← c .before .before .before .before .before .before .before .before .octet-at .ensures, ← c .before .before .before .before .before .before .before .u16-at .ensures, ← c .before .before .before .before .before .before .length-allowed .ensures, c .before .before .before .before .before .if3 .taken, le-ltb _ _ (c .before .before .before .before .if4 .left), c .before .before .before .if5 .left, ← c .before .before .is-miscounted .ensures, c .before .if6 .left) (ap Next (c .event-at .ensures))
 
 pub take-spec : {M : Type 1} → statement M
 take-spec =
@@ -76,6 +83,8 @@ take-spec =
     returns-4
     body-requires
     settings-in-requires
-    event-at-requires
     returns-5
-    returns-6)
+    is-miscounted-requires
+    event-at-requires
+    returns-6
+    returns-7)

@@ -41,7 +41,7 @@ put-tens-requires c κs = omega (arith, c .before .before .before .before .befor
 
 put-octet-requires : tie.Need-put-octet-requires
 unfolding timesOf
-put-octet-requires c κs = omega (arith, c .before .before .before .before .before .before .before .before .before .before .before .before .before .before .before .before .before .before .put-field .ensures .0, field-length 3 (c .before .before .before .before .before .before .before .before .before .before .before .before .before .before .before .before .before .before .before .before .before .before .args .p .state), c .before .before .before .before .before .before .before .before .before .before .before .before .before .put-field2 .ensures .0, field-length 3 (c .before .before .before .before .before .before .before .before .before .before .before .before .before .before .exchange-number .result), c .before .before .before .before .before .before .before .before .put-field3 .ensures .0, field-length 5 (c .before .before .before .before .before .before .before .before .before .before .before .before .before .before .before .before .before .before .before .before .before .before .args .p .left), c .before .before .before .put-tens .ensures .0, tens-length 10 (c .before .before .before .before .before .before .before .before .before .before .before .before .before .before .before .before .before .before .before .before .before .before .args .p .hold))
+put-octet-requires c κs = omega (arith, c .before .before .before .before .before .before .before .before .before .before .before .before .before .before .before .before .before .before .before .before .before .before .pre, c .before .before .before .before .before .before .before .before .before .before .before .before .before .before .before .before .before .before .put-field .ensures .0, field-length 3 (c .before .before .before .before .before .before .before .before .before .before .before .before .before .before .before .before .before .before .before .before .before .before .args .p .state), c .before .before .before .before .before .before .before .before .before .before .before .before .before .put-field2 .ensures .0, field-length 3 (c .before .before .before .before .before .before .before .before .before .before .before .before .before .before .exchange-number .result), c .before .before .before .before .before .before .before .before .put-field3 .ensures .0, field-length 5 (c .before .before .before .before .before .before .before .before .before .before .before .before .before .before .before .before .before .before .before .before .before .before .args .p .left), c .before .before .before .put-tens .ensures .0, tens-length 10 (c .before .before .before .before .before .before .before .before .before .before .before .before .before .before .before .before .before .before .before .before .before .before .args .p .hold))
 
 add-result : tie.Need-add-result
 unfolding timesOf

@@ -15,7 +15,7 @@ has-row-requires : tie.Need-has-row-requires
 has-row-requires c κs = search needs
 
 long-requires : tie.Need-long-requires
-long-requires c κs = omega (arith, leb-true (c .before .before .before .args .at + 24) (length (now (c .before .before .before .args .s))) (sym (c .before .has-row .ensures) ∙ c .if1 .taken))
+long-requires c κs = omega (arith, leb-true (c .before .before .before .args .at + 48) (length (now (c .before .before .before .args .s))) (sym (c .before .has-row .ensures) ∙ c .if1 .taken))
 
 returns : tie.Need-returns
 unfolding rowAt

@@ -47,7 +47,14 @@ query-allowed-requires c κs = search needs
 
 returns-7 : tie.Need-returns-7
 unfolding recordFits
-returns-7 c = search (tests, ← c .query-allowed .ensures, ← c .before .before .exchange-fits .ensures, ← c .before .before .before .before .hold-fits .ensures, ← c .before .before .before .before .before .before .valid .ensures, c .before .if6 .taken, c .before .before .before .if5 .taken, c .before .before .before .before .before .if4 .taken, c .before .before .before .before .before .before .before .if3 .left, c .before .before .before .before .before .before .before .before .before .if2 .left, ← c .before .before .before .before .before .before .before .before .before .before .highest .ensures, c .before .before .before .before .before .before .before .before .before .before .before .if1 .left)
+returns-7 c = search (tests, ← c .before .query-allowed .ensures, c .if7 .left, c .before .before .if6 .taken, ← c .before .before .before .exchange-fits .ensures, c .before .before .before .before .if5 .taken, ← c .before .before .before .before .before .hold-fits .ensures, c .before .before .before .before .before .before .if4 .taken, ← c .before .before .before .before .before .before .before .valid .ensures, c .before .before .before .before .before .before .before .before .if3 .left, c .before .before .before .before .before .before .before .before .before .before .if2 .left, ← c .before .before .before .before .before .before .before .before .before .before .before .highest .ensures, c .before .before .before .before .before .before .before .before .before .before .before .before .if1 .left)
+
+links-fit-requires : tie.Need-links-fit-requires
+links-fit-requires c κs = search needs
+
+returns-8 : tie.Need-returns-8
+unfolding recordFits
+returns-8 c = search (tests, ← c .links-fit .ensures, c .before .if7 .taken, ← c .before .before .query-allowed .ensures, c .before .before .before .if6 .taken, ← c .before .before .before .before .exchange-fits .ensures, c .before .before .before .before .before .if5 .taken, ← c .before .before .before .before .before .before .hold-fits .ensures, c .before .before .before .before .before .before .before .if4 .taken, ← c .before .before .before .before .before .before .before .before .valid .ensures, c .before .before .before .before .before .before .before .before .before .if3 .left, c .before .before .before .before .before .before .before .before .before .before .before .if2 .left, ← c .before .before .before .before .before .before .before .before .before .before .before .before .highest .ensures, c .before .before .before .before .before .before .before .before .before .before .before .before .before .if1 .left)
 
 pub record-fits-spec : {M : Type 1} → statement M
 record-fits-spec =
@@ -64,4 +71,6 @@ record-fits-spec =
     exchange-fits-requires
     returns-6
     query-allowed-requires
-    returns-7)
+    returns-7
+    links-fit-requires
+    returns-8)

@@ -17,17 +17,23 @@ returns-2 c = search tests
 under-way-requires : tie.Need-under-way-requires
 under-way-requires c κs = search needs
 
+returns-3 : tie.Need-returns-3
+unfolding freedOf
+returns-3 c = search (tests, ← c .before .under-way .ensures)
+
+is-none-requires : tie.Need-is-none-requires
+is-none-requires c κs = search needs
+
 free-requires : tie.Need-free-requires
 free-requires c κs = search needs
 
-returns-3 : tie.Need-returns-3
-unfolding freedOf
-returns-3 c = search (tests, ← c .free .ensures, ← c .before .before .under-way .ensures)
-
 returns-4 : tie.Need-returns-4
 unfolding freedOf
-returns-4 c = search (tests, ← c .before .under-way .ensures)
+returns-4 c = search (tests, ← c .free .ensures, c .before .if4 .taken, ← c .before .before .is-none .ensures, ← c .before .before .before .before .before .under-way .ensures)
+
+returns-5 : tie.Need-returns-5
+unfolding freedOf
+returns-5 c = search (tests, c .if4 .left, ← c .before .is-none .ensures, ← c .before .before .before .before .under-way .ensures)
 
 pub freed-spec : {M : Type 1} → statement M
-freed-spec =
-    tie.close (tie.spec returns returns-2 under-way-requires free-requires returns-3 returns-4)
+freed-spec = tie.close (tie.spec returns returns-2 under-way-requires returns-3 is-none-requires free-requires returns-4 returns-5)

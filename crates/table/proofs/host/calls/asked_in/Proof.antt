@@ -23,10 +23,13 @@ peer-at-requires c κs = tt
 asked-at-requires : tie.Need-asked-at-requires
 asked-at-requires c κs = tt
 
+find-link-requires : tie.Need-find-link-requires
+find-link-requires c κs = search needs
+
 returns : tie.Need-returns
 unfolding askedAt
-returns c = λ e. rw (← e, ← c .before .before .before .find .ensures, ← c .before .peer-at .ensures) (c .asked-at .ensures (recordsOf (now (c .before .before .before .before .before .args .table))) ∙ rw (c .before .before .vacancy .ensures, vacant-refusal (c .before .before .before .before .before .args .s) (c .before .peer-at .result) (c .before .before .before .before .before .args .o) (c .before .before .before .find .result) (findOf (addressesOf (recordsOf (now (c .before .before .before .before .before .args .table)))) 0) (c .before .before .before .before .before .args .primitive) (c .before .before .before .before .before .args .address) (c .before .before .before .before .before .args .code)) (ap (unless _ _) (vacant-turn (recordsOf (now (c .before .before .before .before .before .args .table))) (c .before .before .before .find .result) (findOf (addressesOf (recordsOf (now (c .before .before .before .before .before .args .table)))) 0) _ _)))
+returns c = λ l e. rw (← e, ← c .before .before .before .before .find .ensures, ← c .before .before .find-link .ensures l, ← c .before .peer-at .ensures) (c .asked-at .ensures (recordsOf (now (c .before .before .before .before .before .before .args .table))) ∙ rw (c .before .before .before .vacancy .ensures, vacant-refusal (c .before .before .before .before .before .before .args .s) (c .before .peer-at .result) (c .before .before .before .before .before .before .args .o) (c .before .before .before .before .find .result) (findOf (addressesOf (recordsOf (now (c .before .before .before .before .before .before .args .table)))) 0) (c .before .before .find-link .result) (c .before .before .before .before .before .before .args .primitive) (c .before .before .before .before .before .before .args .address) (c .before .before .before .before .before .before .args .code)) (ap (unless _ _) (vacant-turn (recordsOf (now (c .before .before .before .before .before .before .args .table))) (c .before .before .before .before .find .result) (findOf (addressesOf (recordsOf (now (c .before .before .before .before .before .before .args .table)))) 0) _ _)))
 
 pub asked-in-spec : {M : Type 1} → statement M
 asked-in-spec =
-    tie.close (tie.spec find-requires vacancy-requires peer-at-requires asked-at-requires returns)
+    tie.close (tie.spec find-requires vacancy-requires find-link-requires peer-at-requires asked-at-requires returns)

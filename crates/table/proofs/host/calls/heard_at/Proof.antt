@@ -37,8 +37,8 @@ settled-requires-2 c κs = tt
 enum-known-r-2 : tie.Need-enum-known-r-2
 enum-known-r-2 c = search needs
 
-find-requires : tie.Need-find-requires
-find-requires c κs = search needs
+seek-requires : tie.Need-seek-requires
+seek-requires c κs = search needs
 
 vacancy-requires : tie.Need-vacancy-requires
 vacancy-requires c κs = search needs
@@ -51,19 +51,19 @@ heard-from-requires c κs = tt
 
 returns : tie.Need-returns
 unfolding heardFrom
-returns c = rw (c .before .before .r .given .1) (c .refused .ensures (recordsOf (now (c .before .before .before .before .before .args .table))))
+returns c = λ e. rw (c .before .before .r .given .1) (c .refused .ensures (recordsOf (now (c .before .before .before .before .before .args .table))))
 
 returns-2 : tie.Need-returns-2
 unfolding heardFrom
-returns-2 c = rw (c .before .before .enum-told .given .1, ← c .before .verdict .ensures) (c .settled .ensures (recordsOf (now (c .before .before .before .before .before .args .table))))
+returns-2 c = λ e. rw (c .before .before .enum-told .given .1, ← c .before .verdict .ensures) (c .settled .ensures (recordsOf (now (c .before .before .before .before .before .args .table))))
 
 returns-3 : tie.Need-returns-3
 unfolding heardFrom
-returns-3 c = rw (c .before .before .enum-told2 .given .1, ← c .before .verdict2 .ensures) (c .settled2 .ensures (recordsOf (now (c .before .before .before .before .before .args .table))))
+returns-3 c = λ e. rw (c .before .before .enum-told2 .given .1, ← c .before .verdict2 .ensures) (c .settled2 .ensures (recordsOf (now (c .before .before .before .before .before .args .table))))
 
 returns-4 : tie.Need-returns-4
 unfolding heardFrom
-returns-4 c = rw (c .before .before .before .before .before .r2 .given .1, ← c .before .before .before .find .ensures, ← c .before .peer-at .ensures) (c .heard-from .ensures (recordsOf (now (c .before .before .before .before .before .before .before .before .args .table))) ∙ rw (c .before .before .vacancy .ensures) (vacant-turn (recordsOf (now (c .before .before .before .before .before .before .before .before .args .table))) (c .before .before .before .find .result) (findOf (addressesOf (recordsOf (now (c .before .before .before .before .before .before .before .before .args .table)))) 0) _ _))
+returns-4 c = λ e. rw (c .before .before .before .before .before .r2 .given .1, ← c .before .before .before .seek .ensures e, ← c .before .peer-at .ensures) (c .heard-from .ensures (recordsOf (now (c .before .before .before .before .before .before .before .before .args .table))) ∙ rw (c .before .before .vacancy .ensures) (vacant-turn (recordsOf (now (c .before .before .before .before .before .before .before .before .args .table))) (c .before .before .before .seek .result) (findOf (addressesOf (recordsOf (now (c .before .before .before .before .before .before .before .before .args .table)))) 0) _ _))
 
 pub heard-at-spec : {M : Type 1} → statement M
 heard-at-spec =
@@ -78,7 +78,7 @@ heard-at-spec =
     verdict-requires-2
     settled-requires-2
     enum-known-r-2
-    find-requires
+    seek-requires
     vacancy-requires
     peer-at-requires
     heard-from-requires

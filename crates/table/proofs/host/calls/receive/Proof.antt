@@ -3,14 +3,18 @@
 use Rattle.table.specs.declared.rules.event.Event.the-variants as event
 use Rattle.octets.proofs.Branch.{and-right}
 use Rattle.table.proofs.Octets.HostLaws.{acts, frame-heard, ill-formed, no-room, no-table, not-long, rows-table}
+use Rattle.table.proofs.Octets.RowLaws.{length-records}
+use Rattle.table.proofs.Theorems.LinksStay.{received-links}
+use Rattle.table.proofs.Theorems.Well.{well-of}
 use Rattle.table.specs.Fit.{wellFormed}
+use Rattle.table.specs.declared.rules.answer.Met.{Met}
 use Rattle.table.specs.Receive.{receivedOf}
-use Rattle.table.specs.Rows.{numberedAt, recordsOf}
+use Rattle.table.specs.Rows.{linksOver, numberedAt, recordsOf}
 use Rattle.table.specs.Seat.{metOf}
 use borrow.Author.Needs.{needs}
 use denote.Ref.{now}
 use lib.ListN.{length}
-use mathlib.Core.Path.{_∙_, _≡_, refl, sym}
+use mathlib.Core.Path.{_∙_, _≡_, ap, refl, sym}
 use Rattle.table.proofs.host.calls.receive.Statement.{statement}
 use Rattle.table.proofs.host.calls.receive.Tie as tie
 
@@ -60,7 +64,7 @@ same-length-3 : tie.Need-same-length-3
 same-length-3 c = search needs
 
 returns-4 : tie.Need-returns-4
-returns-4 c = let w = sym (c .before .before .before .before .before .before .before .before .before .before .before .before .before .before .survey .ensures .0) ∙ c .before .before .before .before .before .before .before .before .before .before .before .before .before .if3 .taken in let i = rows-table (c .before .before .before .before .before .before .before .before .before .before .before .before .before .before .before .before .before .before .before .before .before .args .s) (now (c .before .before .before .before .before .before .before .before .before .before .before .before .before .before .before .before .before .before .before .before .before .args .table)) (c .before .before .before .before .before .before .before .before .before .before .before .before .before .before .before .before .if2 .left) w in let f = and-right (numberedAt 32 0 (now (c .before .before .before .before .before .before .before .before .before .before .before .before .before .before .before .before .before .before .before .before .before .args .table))) (wellFormed (c .before .before .before .before .before .before .before .before .before .before .before .before .before .before .before .before .before .before .before .before .before .args .s) (recordsOf (now (c .before .before .before .before .before .before .before .before .before .before .before .before .before .before .before .before .before .before .before .before .before .args .table)))) w in let m : metOf (recordsOf (now (c .before .before .before .before .before .before .before .before .before .before .before .before .before .before .before .before .before .before .before .before .before .args .table))) (c .before .before .before .before .before .before .before .before .before .heard-at .result) ≡ receivedOf (c .before .before .before .before .before .before .before .before .before .before .before .before .before .before .before .before .before .before .before .before .before .args .s) (recordsOf (now (c .before .before .before .before .before .before .before .before .before .before .before .before .before .before .before .before .before .before .before .before .before .args .table))) (now (c .before .before .before .before .before .before .before .before .before .before .before .before .before .before .before .before .before .before .before .before .before .args .frame)) (length (now (c .before .before .before .before .before .before .before .before .before .before .before .before .before .before .before .before .before .before .before .before .before .args .out))) = c .before .before .before .before .before .before .before .before .before .heard-at .ensures ∙ rw (c .before .before .before .before .before .before .before .before .before .before .read .ensures, c .before .before .before .before .before .before .before .before .before .before .before .associates .ensures) (frame-heard (c .before .before .before .before .before .before .before .before .before .before .before .before .before .before .before .before .before .before .before .before .before .args .s) (recordsOf (now (c .before .before .before .before .before .before .before .before .before .before .before .before .before .before .before .before .before .before .before .before .before .args .table))) (now (c .before .before .before .before .before .before .before .before .before .before .before .before .before .before .before .before .before .before .before .before .before .args .frame)) (length (now (c .before .before .before .before .before .before .before .before .before .before .before .before .before .before .before .before .before .before .before .before .before .args .out))) (c .before .before .before .before .before .before .before .before .before .before .before .before .before .before .before .before .before .if1 .left) f) in let a = acts (now (c .before .before .before .before .before .before .before .before .before .before .before .before .before .before .before .before .before .before .before .before .before .args .table)) (c .before .before .before .before .before .before .before .before .before .before .before .before .before .before .before .before .before .before .before .before .before .args .s) event.Frame (now (c .before .before .before .before .before .before .before .before .before .before .before .before .before .before .before .before .before .before .before .before .before .args .frame)) (now (c .before .before .before .before .before .before .before .before .before .before .before .before .before .before .before .before .before .before .before .before .before .args .out)) i (c .before .before .before .before .before .before .before .before .before .heard-at .result) _ m refl refl in (c .before .before .answered .ensures .0 ∙ a .0, c .before .before .before .before .before .before .before .met .ensures i ∙ a .1, c .before .before .answered .ensures .1 ∙ a .2)
+returns-4 c = let w = sym (c .before .before .before .before .before .before .before .before .before .before .before .before .before .before .survey .ensures .0) ∙ c .before .before .before .before .before .before .before .before .before .before .before .before .before .if3 .taken in let i = rows-table (c .before .before .before .before .before .before .before .before .before .before .before .before .before .before .before .before .before .before .before .before .before .args .s) (now (c .before .before .before .before .before .before .before .before .before .before .before .before .before .before .before .before .before .before .before .before .before .args .table)) (c .before .before .before .before .before .before .before .before .before .before .before .before .before .before .before .before .if2 .left) w in let f = and-right (numberedAt 32 0 (now (c .before .before .before .before .before .before .before .before .before .before .before .before .before .before .before .before .before .before .before .before .before .args .table))) (wellFormed (c .before .before .before .before .before .before .before .before .before .before .before .before .before .before .before .before .before .before .before .before .before .args .s) (recordsOf (now (c .before .before .before .before .before .before .before .before .before .before .before .before .before .before .before .before .before .before .before .before .before .args .table)))) w in let m : metOf (recordsOf (now (c .before .before .before .before .before .before .before .before .before .before .before .before .before .before .before .before .before .before .before .before .before .args .table))) (c .before .before .before .before .before .before .before .before .before .heard-at .result) ≡ receivedOf (c .before .before .before .before .before .before .before .before .before .before .before .before .before .before .before .before .before .before .before .before .before .args .s) (recordsOf (now (c .before .before .before .before .before .before .before .before .before .before .before .before .before .before .before .before .before .before .before .before .before .args .table))) (now (c .before .before .before .before .before .before .before .before .before .before .before .before .before .before .before .before .before .before .before .before .before .args .frame)) (length (now (c .before .before .before .before .before .before .before .before .before .before .before .before .before .before .before .before .before .before .before .before .before .args .out))) = c .before .before .before .before .before .before .before .before .before .heard-at .ensures (c .before .before .before .before .before .before .before .before .before .before .before .before .before .before .survey .ensures .1 (c .before .before .before .before .before .before .before .before .before .before .before .before .before .if3 .taken) .2) ∙ rw (c .before .before .before .before .before .before .before .before .before .before .read .ensures, c .before .before .before .before .before .before .before .before .before .before .before .associates .ensures) (frame-heard (c .before .before .before .before .before .before .before .before .before .before .before .before .before .before .before .before .before .before .before .before .before .args .s) (recordsOf (now (c .before .before .before .before .before .before .before .before .before .before .before .before .before .before .before .before .before .before .before .before .before .args .table))) (now (c .before .before .before .before .before .before .before .before .before .before .before .before .before .before .before .before .before .before .before .before .before .args .frame)) (length (now (c .before .before .before .before .before .before .before .before .before .before .before .before .before .before .before .before .before .before .before .before .before .args .out))) (c .before .before .before .before .before .before .before .before .before .before .before .before .before .before .before .before .before .if1 .left) f) in let a = acts (now (c .before .before .before .before .before .before .before .before .before .before .before .before .before .before .before .before .before .before .before .before .before .args .table)) (c .before .before .before .before .before .before .before .before .before .before .before .before .before .before .before .before .before .before .before .before .before .args .s) event.Frame (now (c .before .before .before .before .before .before .before .before .before .before .before .before .before .before .before .before .before .before .before .before .before .args .frame)) (now (c .before .before .before .before .before .before .before .before .before .before .before .before .before .before .before .before .before .before .before .before .before .args .out)) i (c .before .before .before .before .before .before .before .before .before .heard-at .result) _ m refl refl in (c .before .before .answered .ensures .0 ∙ a .0, c .before .before .before .before .before .before .before .met .ensures i (λ z. ap (λ (x : Met). linksOver (x .table)) m ∙ received-links (c .before .before .before .before .before .before .before .before .before .before .before .before .before .before .before .before .before .before .before .before .before .args .s) (recordsOf (now (c .before .before .before .before .before .before .before .before .before .before .before .before .before .before .before .before .before .before .before .before .before .args .table))) (well-of (c .before .before .before .before .before .before .before .before .before .before .before .before .before .before .before .before .before .before .before .before .before .args .s) (recordsOf (now (c .before .before .before .before .before .before .before .before .before .before .before .before .before .before .before .before .before .before .before .before .before .args .table))) f (length-records 32 0 (now (c .before .before .before .before .before .before .before .before .before .before .before .before .before .before .before .before .before .before .before .before .before .args .table)))) (now (c .before .before .before .before .before .before .before .before .before .before .before .before .before .before .before .before .before .before .before .before .before .args .frame)) (length (now (c .before .before .before .before .before .before .before .before .before .before .before .before .before .before .before .before .before .before .before .before .before .args .out)))) ∙ a .1, c .before .before .answered .ensures .1 ∙ a .2)
 
 pub receive-spec : {M : Type 1} → statement M
 receive-spec =

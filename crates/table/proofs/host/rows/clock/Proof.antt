@@ -2,8 +2,9 @@
 -- Assumes nothing.
 use Prim.Native.Nat.{_-_, _≤_}
 use Rattle.octets.proofs.RowTrip.{Octets}
+use Rattle.peer.proofs.Links.{tick-links}
 use Rattle.table.proofs.Octets.RowLaws.{blank-free, length-records}
-use Rattle.table.proofs.Octets.RowStores.{Rewritten, record-unread, rewritten-all, rewritten-free, rewritten-length, rewritten-more, rewritten-none}
+use Rattle.table.proofs.Octets.RowStores.{Rewritten, record-unread, rewritten-all, rewritten-free, rewritten-head, rewritten-length, rewritten-none}
 use Rattle.table.proofs.Passes.Ticks.{Told, report-short, tick-free, told-bytes, told-count, told-free, told-none, told-step}
 use Rattle.table.specs.Pass.{afterOf, clockedOf, reportFor}
 use Rattle.table.specs.Rows.{recordsOf}
@@ -16,7 +17,7 @@ use Rattle.table.proofs.host.rows.clock.Statement.{statement}
 use Rattle.table.proofs.host.rows.clock.Tie as tie
 
 abbrev Inv-loop : tie.InvT-loop
-Inv-loop s table₀ d out₀ n₀ i₀ table out n i = (length table₀ ≡ 768) × (256 ≤ length out₀) × Octets table₀ × Rewritten (afterOf s d) table₀ i table × Told s d out₀ (recordsOf table₀) out n i
+Inv-loop s table₀ d out₀ n₀ i₀ table out n i = (length table₀ ≡ 1536) × (256 ≤ length out₀) × Octets table₀ × Rewritten (afterOf s d) table₀ i table × Told s d out₀ (recordsOf table₀) out n i
 
 abbrev μ-loop : tie.MeasureT-loop
 μ-loop s table₀ d out₀ n₀ i₀ table out n i = 32 - i
@@ -51,14 +52,14 @@ cast-put-report c = omega (arith, c .before .before .before .before .before .bef
 put-report-requires : tie.Need-put-report-requires Inv-loop μ-loop
 put-report-requires c κs = omega (arith, c .before .before .before .before .before .before .before .before .loop .inv .1, c .before .before .before .before .before .before .before .before .loop .inv .4 .low, c .before .before .before .before .before .before .before .before .loop .inv .4 .same, c .before .before .before .before .before .before .before .loop-test .taken)
 
-store-requires : tie.Need-store-requires Inv-loop μ-loop
-store-requires c κs = tt
+store-head-requires : tie.Need-store-head-requires Inv-loop μ-loop
+store-head-requires c κs = tt
 
 loop-less-2 : tie.Need-loop-less-2 Inv-loop μ-loop
 loop-less-2 c = search needs
 
 loop-again-2 : tie.Need-loop-again-2 Inv-loop μ-loop
-loop-again-2 c = (c .before .before .before .before .before .before .before .before .before .before .before .before .before .before .before .before .loop .inv .0, c .before .before .before .before .before .before .before .before .before .before .before .before .before .before .before .before .loop .inv .1, c .before .before .before .before .before .before .before .before .before .before .before .before .before .before .before .before .loop .inv .2, c .before .before .store .ensures ∙ rw (lt-ltb _ _ (c .before .before .before .before .before .before .before .before .before .before .before .before .before .before .before .loop-test .taken)) (rewritten-more (afterOf _ _) _ (c .before .before .before .before .before .before .before .before .before .before .before .before .before .before .before .before .loop .inv .0) _ _ (c .before .before .before .before .before .before .before .before .before .before .before .before .before .before .before .loop-test .taken) (c .before .before .before .before .before .before .before .before .before .before .before .before .before .before .before .before .loop .inv .3) _ (rw (c .before .before .before .before .before .before .before .before .before .tick .ensures, c .before .before .before .before .before .before .before .before .before .before .look .ensures, record-unread (afterOf _ _) _ (c .before .before .before .before .before .before .before .before .before .before .before .before .before .before .before .before .loop .inv .0) _ _ (c .before .before .before .before .before .before .before .before .before .before .before .before .before .before .before .loop-test .taken) (c .before .before .before .before .before .before .before .before .before .before .before .before .before .before .before .before .loop .inv .3)))), told-step _ _ _ _ _ _ _ (c .before .before .before .before .before .before .before .before .before .before .before .before .before .before .before .before .loop .inv .4) (c .before .before .before .before .before .before .before .before .before .before .before .before .before .before .before .loop-test .taken) (reportFor (c .before .before .before .before .before .before .before .before .before .before .before .before .before .before .before .before .loop .i) (c .before .before .before .before .before .before .before .before .before .tick .result .report) (c .before .before .before .before .before .before .before .before .before .before .look .result .address)) (rw (c .before .before .before .before .before .before .before .before .before .tick .ensures, c .before .before .before .before .before .before .before .before .before .before .look .ensures, record-unread (afterOf _ _) _ (c .before .before .before .before .before .before .before .before .before .before .before .before .before .before .before .before .loop .inv .0) _ _ (c .before .before .before .before .before .before .before .before .before .before .before .before .before .before .before .loop-test .taken) (c .before .before .before .before .before .before .before .before .before .before .before .before .before .before .before .before .loop .inv .3))) (report-short _ _ _) _ (c .before .before .before .before .before .before .before .put-report .ensures .0) _ (c .before .before .before .before .before .before .before .put-report .ensures .1))
+loop-again-2 c = (c .before .before .before .before .before .before .before .before .before .before .before .before .before .before .before .before .loop .inv .0, c .before .before .before .before .before .before .before .before .before .before .before .before .before .before .before .before .loop .inv .1, c .before .before .before .before .before .before .before .before .before .before .before .before .before .before .before .before .loop .inv .2, c .before .before .store-head .ensures ∙ rw (lt-ltb _ _ (c .before .before .before .before .before .before .before .before .before .before .before .before .before .before .before .loop-test .taken)) (rewritten-head (afterOf _ _) _ (c .before .before .before .before .before .before .before .before .before .before .before .before .before .before .before .before .loop .inv .0) _ _ (c .before .before .before .before .before .before .before .before .before .before .before .before .before .before .before .loop-test .taken) (c .before .before .before .before .before .before .before .before .before .before .before .before .before .before .before .before .loop .inv .3) (c .before .before .before .before .before .before .before .before .before .before .before .before .before .before .before .before .loop .inv .2) (λ q. tick-links _ q _) _ (rw (c .before .before .before .before .before .before .before .before .before .tick .ensures, c .before .before .before .before .before .before .before .before .before .before .look .ensures, record-unread (afterOf _ _) _ (c .before .before .before .before .before .before .before .before .before .before .before .before .before .before .before .before .loop .inv .0) _ _ (c .before .before .before .before .before .before .before .before .before .before .before .before .before .before .before .loop-test .taken) (c .before .before .before .before .before .before .before .before .before .before .before .before .before .before .before .before .loop .inv .3)))), told-step _ _ _ _ _ _ _ (c .before .before .before .before .before .before .before .before .before .before .before .before .before .before .before .before .loop .inv .4) (c .before .before .before .before .before .before .before .before .before .before .before .before .before .before .before .loop-test .taken) (reportFor (c .before .before .before .before .before .before .before .before .before .before .before .before .before .before .before .before .loop .i) (c .before .before .before .before .before .before .before .before .before .tick .result .report) (c .before .before .before .before .before .before .before .before .before .before .look .result .address)) (rw (c .before .before .before .before .before .before .before .before .before .tick .ensures, c .before .before .before .before .before .before .before .before .before .before .look .ensures, record-unread (afterOf _ _) _ (c .before .before .before .before .before .before .before .before .before .before .before .before .before .before .before .before .loop .inv .0) _ _ (c .before .before .before .before .before .before .before .before .before .before .before .before .before .before .before .loop-test .taken) (c .before .before .before .before .before .before .before .before .before .before .before .before .before .before .before .before .loop .inv .3))) (report-short _ _ _) _ (c .before .before .before .before .before .before .before .put-report .ensures .0) _ (c .before .before .before .before .before .before .before .put-report .ensures .1))
 
 cast-result : tie.Need-cast-result Inv-loop μ-loop
 cast-result c = omega (arith, c .before .loop .inv .4 .low, c .before .loop .inv .4 .place)
@@ -89,7 +90,7 @@ clock-spec =
     tick-requires
     cast-put-report
     put-report-requires
-    store-requires
+    store-head-requires
     loop-less-2
     loop-again-2
     cast-result

@@ -15,7 +15,7 @@ use Rattle.table.proofs.host.rows.find.Statement.{statement}
 use Rattle.table.proofs.host.rows.find.Tie as tie
 
 abbrev Inv-loop : tie.InvT-loop
-Inv-loop table address i₀ i = (length table ≡ 768) × (i ≤ 32) × (firstFrom (λ b. eqb b address) i (drop i (addressesOf (recordsOf table))) ≡ findOf (addressesOf (recordsOf table)) address)
+Inv-loop table address i₀ i = (length table ≡ 1536) × (i ≤ 32) × (firstFrom (λ b. eqb b address) i (drop i (addressesOf (recordsOf table))) ≡ findOf (addressesOf (recordsOf table)) address)
 
 abbrev μ-loop : tie.MeasureT-loop
 μ-loop table address i₀ i = 32 - i

@@ -10,7 +10,7 @@ use Rattle.table.proofs.host.rows.met.Tie as tie
 
 returns : tie.Need-returns
 unfolding metOf
-returns c = λ e. absurd (c .if1 .taken (table-long (now (c .before .before .args .table)) e))
+returns c = λ e same. absurd (c .if1 .taken (table-long (now (c .before .before .args .table)) e))
 
 enum-told : tie.Need-enum-told
 enum-told c = search needs
@@ -23,14 +23,14 @@ stored-requires c κs = search needs
 
 returns-2 : tie.Need-returns-2
 unfolding metOf
-returns-2 c = λ e. rw (c .enum-told .given .1) (sym (octets-of-records (now (c .before .before .before .before .args .table)) (λ k. c .before .before .before .slice-known .given k .fits) e))
+returns-2 c = λ e same. rw (c .enum-told .given .1) (sym (octets-of-records (now (c .before .before .before .before .args .table)) (λ k. c .before .before .before .slice-known .given k .fits) e))
 
 same-length : tie.Need-same-length
 same-length c = search needs
 
 returns-3 : tie.Need-returns-3
 unfolding metOf
-returns-3 c = λ e. rw (c .before .before .before .before .before .before .place .given .1) (c .before .before .stored .ensures e)
+returns-3 c = λ e same. rw (c .before .before .before .before .before .before .place .given .1) (c .before .before .stored .ensures e (λ z. rw (c .before .before .before .before .before .before .place .given .1) at (same z)))
 
 pub met-spec : {M : Type 1} → statement M
 met-spec =

@@ -2,8 +2,9 @@
 -- Assumes nothing.
 use Prim.Native.Nat.{_-_, _≤_}
 use Rattle.octets.proofs.RowTrip.{Octets}
+use Rattle.peer.proofs.Links.{parted-links}
 use Rattle.peer.specs.Association.{partedOf}
-use Rattle.table.proofs.Octets.RowStores.{Rewritten, record-unread, rewritten-all, rewritten-free, rewritten-length, rewritten-more, rewritten-none}
+use Rattle.table.proofs.Octets.RowStores.{Rewritten, record-unread, rewritten-all, rewritten-free, rewritten-head, rewritten-length, rewritten-none}
 use borrow.Author.Needs.{needs}
 use borrow.Author.Tests.{lt-ltb}
 use lib.ListN.{length}
@@ -13,7 +14,7 @@ use Rattle.table.proofs.host.rows.part_all.Statement.{statement}
 use Rattle.table.proofs.host.rows.part_all.Tie as tie
 
 abbrev Inv-loop : tie.InvT-loop
-Inv-loop table₀ i₀ table i = (length table₀ ≡ 768) × (i ≤ 32) × Octets table₀ × Rewritten partedOf table₀ i table
+Inv-loop table₀ i₀ table i = (length table₀ ≡ 1536) × (i ≤ 32) × Octets table₀ × Rewritten partedOf table₀ i table
 
 abbrev μ-loop : tie.MeasureT-loop
 μ-loop table₀ i₀ table i = 32 - i
@@ -43,14 +44,14 @@ look-requires c κs = tt
 parted-requires : tie.Need-parted-requires Inv-loop μ-loop
 parted-requires c κs = tt
 
-store-requires : tie.Need-store-requires Inv-loop μ-loop
-store-requires c κs = tt
+store-head-requires : tie.Need-store-head-requires Inv-loop μ-loop
+store-head-requires c κs = tt
 
 loop-less-2 : tie.Need-loop-less-2 Inv-loop μ-loop
 loop-less-2 c = search needs
 
 loop-again-2 : tie.Need-loop-again-2 Inv-loop μ-loop
-loop-again-2 c = (c .before .before .before .before .before .before .before .before .before .before .before .loop .inv .0, omega (arith, c .before .before .before .before .before .before .before .before .before .before .loop-test .taken), c .before .before .before .before .before .before .before .before .before .before .before .loop .inv .2, c .before .before .store .ensures ∙ rw (lt-ltb _ _ (c .before .before .before .before .before .before .before .before .before .before .loop-test .taken)) (rewritten-more partedOf _ (c .before .before .before .before .before .before .before .before .before .before .before .loop .inv .0) _ _ (c .before .before .before .before .before .before .before .before .before .before .loop-test .taken) (c .before .before .before .before .before .before .before .before .before .before .before .loop .inv .3) _ (c .before .before .before .before .parted .ensures ∙ rw (c .before .before .before .before .before .look .ensures, record-unread partedOf _ (c .before .before .before .before .before .before .before .before .before .before .before .loop .inv .0) _ _ (c .before .before .before .before .before .before .before .before .before .before .loop-test .taken) (c .before .before .before .before .before .before .before .before .before .before .before .loop .inv .3)))))
+loop-again-2 c = (c .before .before .before .before .before .before .before .before .before .before .before .loop .inv .0, omega (arith, c .before .before .before .before .before .before .before .before .before .before .loop-test .taken), c .before .before .before .before .before .before .before .before .before .before .before .loop .inv .2, c .before .before .store-head .ensures ∙ rw (lt-ltb _ _ (c .before .before .before .before .before .before .before .before .before .before .loop-test .taken)) (rewritten-head partedOf _ (c .before .before .before .before .before .before .before .before .before .before .before .loop .inv .0) _ _ (c .before .before .before .before .before .before .before .before .before .before .loop-test .taken) (c .before .before .before .before .before .before .before .before .before .before .before .loop .inv .3) (c .before .before .before .before .before .before .before .before .before .before .before .loop .inv .2) (λ q. parted-links q .1) _ (c .before .before .before .before .parted .ensures ∙ rw (c .before .before .before .before .before .look .ensures, record-unread partedOf _ (c .before .before .before .before .before .before .before .before .before .before .before .loop .inv .0) _ _ (c .before .before .before .before .before .before .before .before .before .before .loop-test .taken) (c .before .before .before .before .before .before .before .before .before .before .before .loop .inv .3)))))
 
 same-length : tie.Need-same-length Inv-loop μ-loop
 same-length c = rewritten-length partedOf _ (c .before .loop .inv .0) _ _ (c .before .loop .inv .1) (c .before .loop .inv .3)
@@ -72,7 +73,7 @@ part-all-spec =
     loop-again
     look-requires
     parted-requires
-    store-requires
+    store-head-requires
     loop-less-2
     loop-again-2
     same-length

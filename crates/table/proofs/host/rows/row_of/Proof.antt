@@ -14,12 +14,12 @@ query-left-requires c κs = tt
 query-number-requires : tie.Need-query-number-requires
 query-number-requires c κs = tt
 
-cast-t7 : tie.Need-cast-t7
-cast-t7 c = omega arith
+cast-t8 : tie.Need-cast-t8
+cast-t8 c = omega arith
 
 returns : tie.Need-returns
 unfolding rowOf
 returns c = rw (c .before .before .exchange-number .ensures, c .before .query-left .ensures, c .query-number .ensures)
 
 pub row-of-spec : {M : Type 1} → statement M
-row-of-spec = tie.close (tie.spec exchange-number-requires query-left-requires query-number-requires cast-t7 returns)
+row-of-spec = tie.close (tie.spec exchange-number-requires query-left-requires query-number-requires cast-t8 returns)

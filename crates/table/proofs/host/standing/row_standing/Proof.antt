@@ -1,6 +1,7 @@
 -- `table::host::standing::row_standing` meets its contract: each answer by the first test that fails, or by the exchange; the query by its own test.
 -- Assumes nothing.
 use Rattle.peer.specs.Fit.{recordFits}
+use Rattle.peer.specs.Record.{linkedOf}
 use Rattle.table.proofs.Passes.Loops.{and-false}
 use Rattle.table.proofs.Octets.Standings.{by-exchange, no-standing, query-unfit}
 use Rattle.table.specs.Rows.{recordOf, rowNumbered}
@@ -14,7 +15,7 @@ alone-requires : tie.Need-alone-requires
 alone-requires c κs = tt
 
 returns : tie.Need-returns
-unfolding recordFits recordOf
+unfolding recordFits recordOf linkedOf
 returns c = no-standing _ (c .alone .ensures) _ _ (rw (lt-leb _ _ (c .before .if1 .taken)) (and-false (rowNumbered (c .before .before .before .args .r))))
 
 highest-requires : tie.Need-highest-requires
@@ -24,14 +25,14 @@ alone-requires-2 : tie.Need-alone-requires-2
 alone-requires-2 c κs = tt
 
 returns-2 : tie.Need-returns-2
-unfolding recordFits recordOf
+unfolding recordFits recordOf linkedOf
 returns-2 c = no-standing _ (c .alone2 .ensures) _ _ (rw (le-leb _ _ (c .before .before .before .before .if1 .left), ← c .before .before .before .highest .ensures, lt-leb _ _ (c .before .if2 .taken)) (and-false (rowNumbered (c .before .before .before .before .before .before .args .r))))
 
 alone-requires-3 : tie.Need-alone-requires-3
 alone-requires-3 c κs = tt
 
 returns-3 : tie.Need-returns-3
-unfolding recordFits recordOf
+unfolding recordFits recordOf linkedOf
 returns-3 c = no-standing _ (c .alone3 .ensures) _ _ (rw (le-leb _ _ (c .before .before .before .before .before .before .before .if1 .left), ← c .before .before .before .before .before .before .highest .ensures, le-leb _ _ (c .before .before .before .before .if2 .left), eq-eqb _ _ (c .before .if3 .taken)) (and-false (rowNumbered (c .before .before .before .before .before .before .before .before .before .args .r))))
 
 valid-requires : tie.Need-valid-requires
@@ -41,7 +42,7 @@ alone-requires-4 : tie.Need-alone-requires-4
 alone-requires-4 c κs = tt
 
 returns-4 : tie.Need-returns-4
-unfolding recordFits recordOf
+unfolding recordFits recordOf linkedOf
 returns-4 c = no-standing _ (c .alone4 .ensures) _ _ (rw (le-leb _ _ (c .before .before .before .before .before .before .before .before .before .if1 .left), ← c .before .before .before .before .before .before .before .before .highest .ensures, le-leb _ _ (c .before .before .before .before .before .before .if2 .left), ne-eqb _ _ (c .before .before .before .if3 .left), ← c .before .before .valid .ensures, c .before .if4 .left) (and-false (rowNumbered (c .before .before .before .before .before .before .before .before .before .before .before .args .r))))
 
 query-standing-requires : tie.Need-query-standing-requires
@@ -60,14 +61,16 @@ alone-requires-6 : tie.Need-alone-requires-6
 alone-requires-6 c κs = tt
 
 returns-6 : tie.Need-returns-6
-unfolding recordFits recordOf
+unfolding recordFits recordOf linkedOf
 returns-6 c = no-standing _ (c .alone6 .ensures) _ _ (rw (le-leb _ _ (c .before .before .before .before .before .before .before .before .before .before .before .before .before .if1 .left), ← c .before .before .before .before .before .before .before .before .before .before .before .before .highest .ensures, le-leb _ _ (c .before .before .before .before .before .before .before .before .before .before .if2 .left), ne-eqb _ _ (c .before .before .before .before .before .before .before .if3 .left), ← c .before .before .before .before .before .before .valid .ensures, c .before .before .before .before .before .if4 .taken, ← c .before .before .hold-fits .ensures, c .before .if6 .left) (and-false (rowNumbered (c .before .before .before .before .before .before .before .before .before .before .before .before .before .before .before .args .r))))
 
 exchange-standing-requires : tie.Need-exchange-standing-requires
 exchange-standing-requires c κs = tt
 
 returns-7 : tie.Need-returns-7
-returns-7 c = by-exchange (c .before .before .before .before .before .before .before .before .before .before .before .before .before .before .before .args .s) (c .before .before .before .before .before .before .before .before .before .before .before .before .before .before .before .args .r) _ (le-leb _ _ (c .before .before .before .before .before .before .before .before .before .before .before .before .before .if1 .left)) (rw (← c .before .before .before .before .before .before .before .before .before .before .before .before .highest .ensures) (le-leb _ _ (c .before .before .before .before .before .before .before .before .before .before .if2 .left))) (ne-eqb _ _ (c .before .before .before .before .before .before .before .if3 .left)) (sym (c .before .before .before .before .before .before .valid .ensures) ∙ c .before .before .before .before .before .if4 .taken) (sym (c .before .before .hold-fits .ensures) ∙ c .before .if6 .taken) (omega (arith, c .before .before .before .before .before .before .before .before .before .before .before .before .before .before .before .good)) (sym (c .before .before .before .before .query-standing .ensures) ∙ c .before .before .before .if5 .taken) (c .exchange-standing .ensures)
+returns-7 c =
+    let start = c .before .before .before .before .before .before .before .before .before .before .before .before .before .before .before in
+    by-exchange (start .args .s) (start .args .r) _ (le-leb _ _ (c .before .before .before .before .before .before .before .before .before .before .before .before .before .if1 .left)) (rw (← c .before .before .before .before .before .before .before .before .before .before .before .before .highest .ensures) (le-leb _ _ (c .before .before .before .before .before .before .before .before .before .before .if2 .left))) (ne-eqb _ _ (c .before .before .before .before .before .before .before .if3 .left)) (sym (c .before .before .before .before .before .before .valid .ensures) ∙ c .before .before .before .before .before .if4 .taken) (sym (c .before .before .hold-fits .ensures) ∙ c .before .if6 .taken) (omega (arith, start .good)) (sym (c .before .before .before .before .query-standing .ensures) ∙ c .before .before .before .if5 .taken) (c .exchange-standing .ensures)
 
 pub row-standing-spec : {M : Type 1} → statement M
 row-standing-spec =

@@ -2,7 +2,7 @@
 -- Assumes nothing.
 use Prim.Native.Nat.{_-_}
 use Rattle.peer.specs.Settings.{settingsFit}
-use Rattle.table.proofs.Octets.Surveys.{Surveyed, same-address, says-nothing, surveyed-all, surveyed-free, surveyed-from, surveyed-used, unfit-row, unfit-settings}
+use Rattle.table.proofs.Octets.Surveys.{Surveyed, any-linked, plain-row, same-address, says-nothing, surveyed-all, surveyed-free, surveyed-from, surveyed-used, unfit-row, unfit-settings}
 use borrow.Author.Needs.{needs}
 use mathlib.Core.Bool.{true}
 use mathlib.Core.Path.{_∙_, _≡_, sym}
@@ -11,10 +11,10 @@ use Rattle.table.proofs.host.survey.survey.Statement.{statement}
 use Rattle.table.proofs.host.survey.survey.Tie as tie
 
 abbrev Inv-loop : tie.InvT-loop
-Inv-loop s table marks₀ associated₀ joined₀ associating₀ i₀ marks associated joined associating i = (settingsFit s ≡ true) × Surveyed s table marks associated joined associating i
+Inv-loop s table marks₀ associated₀ joined₀ associating₀ linked₀ i₀ marks associated joined associating linked i = (settingsFit s ≡ true) × Surveyed s table marks associated joined associating linked i
 
 abbrev μ-loop : tie.MeasureT-loop
-μ-loop s table marks₀ associated₀ joined₀ associating₀ i₀ marks associated joined associating i = i
+μ-loop s table marks₀ associated₀ joined₀ associating₀ linked₀ i₀ marks associated joined associating linked i = i
 
 ill-requires : tie.Need-ill-requires Inv-loop μ-loop
 ill-requires c κs = tt
@@ -50,13 +50,19 @@ loop-less : tie.Need-loop-less Inv-loop μ-loop
 loop-less c = search needs
 
 loop-again : tie.Need-loop-again Inv-loop μ-loop
-loop-again c = (c .before .before .before .loop .inv .0, surveyed-free _ _ _ _ _ _ _ (c .before .before .before .loop .inv .1) (c .before .before .loop-test .taken) (sym (c .before .blank-at .ensures) ∙ c .if3 .taken))
+loop-again c = (c .before .before .before .loop .inv .0, surveyed-free _ _ _ _ _ _ _ _ (c .before .before .before .loop .inv .1) (c .before .before .loop-test .taken) (sym (c .before .blank-at .ensures) ∙ c .if3 .taken))
 
 mul-row-at : tie.Need-mul-row-at Inv-loop μ-loop
 mul-row-at c = omega (arith, c .before .before .before .loop .inv .1 .tally .low)
 
 row-at-requires : tie.Need-row-at-requires Inv-loop μ-loop
 row-at-requires c κs = tt
+
+mul-linkless-at : tie.Need-mul-linkless-at Inv-loop μ-loop
+mul-linkless-at c = omega (arith, c .before .before .before .before .before .before .loop .inv .1 .tally .low)
+
+linkless-at-requires : tie.Need-linkless-at-requires Inv-loop μ-loop
+linkless-at-requires c κs = tt
 
 row-standing-requires : tie.Need-row-standing-requires Inv-loop μ-loop
 row-standing-requires c κs = c .before .before .before .before .loop .inv .0
@@ -65,7 +71,7 @@ ill-requires-3 : tie.Need-ill-requires-3 Inv-loop μ-loop
 ill-requires-3 c κs = tt
 
 returns-3 : tie.Need-returns-3 Inv-loop μ-loop
-returns-3 c = says-nothing _ _ (c .ill3 .ensures) (unfit-row _ _ _ _ _ _ _ (c .before .before .before .before .before .before .before .loop .inv .1) (c .before .before .before .before .before .before .loop-test .taken) _ (c .before .before .before .row-at .ensures) (sym (c .before .before .before .before .before .blank-at .ensures) ∙ c .before .before .before .before .if3 .left) (sym (c .before .before .row-standing .ensures .0) ∙ c .before .if4 .left))
+returns-3 c = says-nothing _ _ (c .ill3 .ensures) (unfit-row _ _ _ _ _ _ _ _ (c .before .before .before .before .before .before .before .loop .inv .1) (c .before .before .before .before .before .before .loop-test .taken) _ (c .before .before .before .row-at .ensures) (sym (c .before .before .before .before .before .blank-at .ensures) ∙ c .before .before .before .before .if3 .left) (sym (c .before .before .row-standing .ensures .0) ∙ c .before .if4 .left))
 
 mark-requires : tie.Need-mark-requires Inv-loop μ-loop
 mark-requires c κs = tt
@@ -74,13 +80,13 @@ array-read-alone : tie.Need-array-read-alone Inv-loop μ-loop
 array-read-alone c = omega (arith, c .mark .ensures)
 
 alone-requires : tie.Need-alone-requires Inv-loop μ-loop
-alone-requires c κs = omega (arith, c .before .before .before .before .before .before .before .loop .inv .1 .tally .low, c .before .before .before .before .before .before .loop-test .taken)
+alone-requires c κs = omega (arith, c .before .before .before .before .before .before .before .before .before .loop .inv .1 .tally .low, c .before .before .before .before .before .before .before .before .loop-test .taken)
 
 ill-requires-4 : tie.Need-ill-requires-4 Inv-loop μ-loop
 ill-requires-4 c κs = tt
 
 returns-4 : tie.Need-returns-4 Inv-loop μ-loop
-returns-4 c = says-nothing _ _ (c .ill4 .ensures) (same-address _ _ _ _ _ _ _ (c .before .before .before .before .before .before .before .before .before .before .loop .inv .1) (c .before .before .before .before .before .before .before .before .before .loop-test .taken) _ (c .before .before .before .before .before .before .row-at .ensures) (sym (c .before .before .before .before .before .row-standing .ensures .0) ∙ c .before .before .before .before .if4 .taken) _ (c .before .before .before .mark .ensures) (sym (c .before .before .alone .ensures) ∙ c .before .if5 .left))
+returns-4 c = says-nothing _ _ (c .ill4 .ensures) (same-address _ _ _ _ _ _ _ _ (c .before .before .before .before .before .before .before .before .before .before .before .before .loop .inv .1) (c .before .before .before .before .before .before .before .before .before .before .before .loop-test .taken) _ (c .before .before .before .before .before .before .before .before .row-at .ensures) (sym (c .before .before .before .before .before .before .before .row-standing .ensures .0) ∙ c .before .before .before .before .before .before .if4 .taken) _ (c .before .before .before .mark .ensures) (sym (c .before .before .alone .ensures) ∙ c .before .if5 .left))
 
 array-write-marks : tie.Need-array-write-marks Inv-loop μ-loop
 array-write-marks c = omega (arith, c .before .before .mark .ensures)
@@ -89,22 +95,41 @@ first-joined-requires : tie.Need-first-joined-requires Inv-loop μ-loop
 first-joined-requires c κs = tt
 
 counted-requires : tie.Need-counted-requires Inv-loop μ-loop
-counted-requires c κs = omega (arith, c .before .before .before .before .before .before .before .before .before .before .before .loop .inv .1 .tally .few, c .before .before .before .before .before .before .before .before .before .before .loop-test .taken)
+counted-requires c κs = omega (arith, c .before .before .before .before .before .before .before .before .before .before .before .before .before .loop .inv .1 .tally .few, c .before .before .before .before .before .before .before .before .before .before .before .before .loop-test .taken)
 
 counted-requires-2 : tie.Need-counted-requires-2 Inv-loop μ-loop
-counted-requires-2 c κs = omega (arith, c .before .before .before .before .before .before .before .before .before .before .before .before .loop .inv .1 .tally .few′, c .before .before .before .before .before .before .before .before .before .before .before .loop-test .taken)
+counted-requires-2 c κs = omega (arith, c .before .before .before .before .before .before .before .before .before .before .before .before .before .before .loop .inv .1 .tally .few′, c .before .before .before .before .before .before .before .before .before .before .before .before .before .loop-test .taken)
+
+linked-so-far-requires : tie.Need-linked-so-far-requires Inv-loop μ-loop
+linked-so-far-requires c κs = tt
 
 loop-less-2 : tie.Need-loop-less-2 Inv-loop μ-loop
 loop-less-2 c = search needs
 
 loop-again-2 : tie.Need-loop-again-2 Inv-loop μ-loop
-loop-again-2 c = (c .before .before .before .before .before .before .before .before .before .before .before .before .before .loop .inv .0, surveyed-used _ _ _ _ _ _ _ (c .before .before .before .before .before .before .before .before .before .before .before .before .before .loop .inv .1) (c .before .before .before .before .before .before .before .before .before .before .before .before .loop-test .taken) _ (c .before .before .before .before .before .before .before .before .before .row-at .ensures) (sym (c .before .before .before .before .before .before .before .before .row-standing .ensures .0) ∙ c .before .before .before .before .before .before .before .if4 .taken) _ (c .before .before .before .before .before .before .mark .ensures) (sym (c .before .before .before .before .before .alone .ensures) ∙ c .before .before .before .before .if5 .taken) _ (c .before .before .first-joined .ensures) _ (c .before .counted .ensures) _ (c .before .before .before .before .before .before .before .before .row-standing .ensures .1 (c .before .before .before .before .before .before .before .if4 .taken)) _ (c .counted2 .ensures))
+loop-again-2 c =
+    let v = c .before .before .before .before .before .before .before .before .before .before .before .before .before .before .before .loop .inv .1 in
+    let z = c .before .before .before .before .before .before .before .before .before .before .before .before .before .before .loop-test .taken in
+    let row = c .before .before .before .before .before .before .before .before .before .before .before .row-at .ensures in
+    let stand = c .before .before .before .before .before .before .before .before .before .before .row-standing .ensures in
+    let fit = c .before .before .before .before .before .before .before .before .before .if4 .taken in
+    (c .before .before .before .before .before .before .before .before .before .before .before .before .before .before .before .loop .inv .0, surveyed-used _ _ _ _ _ _ _ _ v z _ row (sym (stand .0) ∙ fit) _ (c .before .before .before .before .before .before .mark .ensures) (sym (c .before .before .before .before .before .alone .ensures) ∙ c .before .before .before .before .if5 .taken) _ (c .before .before .first-joined .ensures) _ (c .before .counted .ensures) _ (stand .1 fit) _ (c .counted2 .ensures) _ (plain-row _ _ _ _ _ _ _ _ v z _ row _ (c .before .before .before .before .before .before .before .before .linkless-at .ensures)) _ (c .before .before .before .before .before .before .before .linked-so-far .ensures))
 
 sparse-requires : tie.Need-sparse-requires Inv-loop μ-loop
 sparse-requires c κs = tt
 
+links-well-requires : tie.Need-links-well-requires Inv-loop μ-loop
+links-well-requires c κs =
+    let v = c .before .before .loop .inv in
+    (v .1 .long, any-linked _ _ _ _ _ _ _ _ (v .1) (c .before .loop-test .left) (v .0))
+
+both-requires : tie.Need-both-requires Inv-loop μ-loop
+both-requires c κs = tt
+
 returns-5 : tie.Need-returns-5 Inv-loop μ-loop
-returns-5 c = surveyed-all _ _ _ _ _ _ _ (c .before .before .loop .inv .1) (c .before .loop-test .left) (c .before .before .loop .inv .0) _ (c .sparse .ensures)
+returns-5 c =
+    let end = c .before .before .before in
+    surveyed-all _ _ _ _ _ _ _ _ (end .before .loop .inv .1) (end .loop-test .left) (end .before .loop .inv .0) _ (c .before .before .sparse .ensures) _ (c .before .links-well .ensures) _ (c .both .ensures)
 
 pub survey-spec : {M : Type 1} → statement M
 survey-spec =
@@ -129,6 +154,9 @@ survey-spec =
     row-standing-requires
     ill-requires-3
     returns-3
+    mul-linkless-at
+    linkless-at-requires
+    linked-so-far-requires
     mark-requires
     array-read-alone
     alone-requires
@@ -141,4 +169,6 @@ survey-spec =
     loop-less-2
     loop-again-2
     sparse-requires
+    links-well-requires
+    both-requires
     returns-5)

@@ -1,7 +1,8 @@
 -- `table::host::survey::used` meets its contract: the places passed are free.
 -- Assumes nothing.
-use Prim.Native.Nat.{_*_, _<_, _≤_, ℕ}
+use Prim.Native.Nat.{_+_, _*_, _-_, _<_, _≤_, ℕ}
 use Rattle.octets.specs.Row.{blankAt}
+use Rattle.peer.proofs.Fits.{both}
 use Rattle.table.proofs.Octets.Surveys.{one-down}
 use borrow.Author.Needs.{needs}
 use denote.Ref.{now}
@@ -13,7 +14,7 @@ use Rattle.table.proofs.host.survey.used.Statement.{statement}
 use Rattle.table.proofs.host.survey.used.Tie as tie
 
 abbrev Inv-loop : tie.InvT-loop
-Inv-loop table i₀ i = (length table ≡ 768) × (i ≤ 32) × ((j : ℕ) → i ≤ j → j < 32 → blankAt (24 * j) table ≡ true)
+Inv-loop table i₀ i = (length table ≡ 1536) × (i ≤ 16) × ((j : ℕ) → 2 * i ≤ j → j < 32 → blankAt (48 * j) table ≡ true)
 
 abbrev μ-loop : tie.MeasureT-loop
 μ-loop table i₀ i = i
@@ -24,17 +25,20 @@ returns c = absurd (c .if1 .taken (c .before .before .pre))
 loop-holds : tie.Need-loop-holds Inv-loop μ-loop
 loop-holds c = (c .before .before .pre, omega arith, λ j l h. absurd (omega arith))
 
-sub-blank-at : tie.Need-sub-blank-at Inv-loop μ-loop
-sub-blank-at c = search needs
+sub-pair-blank : tie.Need-sub-pair-blank Inv-loop μ-loop
+sub-pair-blank c = search needs
 
-mul-blank-at : tie.Need-mul-blank-at Inv-loop μ-loop
-mul-blank-at c = omega (arith, c .before .loop .inv .1)
+mul-pair-blank : tie.Need-mul-pair-blank Inv-loop μ-loop
+mul-pair-blank c = omega (arith, c .before .loop .inv .1)
 
-blank-at-requires : tie.Need-blank-at-requires Inv-loop μ-loop
-blank-at-requires c κs = tt
+pair-blank-requires : tie.Need-pair-blank-requires Inv-loop μ-loop
+pair-blank-requires c κs = omega (arith, c .before .loop .inv .1)
+
+mul-result : tie.Need-mul-result Inv-loop μ-loop
+mul-result c = omega (arith, c .before .before .before .loop .inv .1)
 
 returns-2 : tie.Need-returns-2 Inv-loop μ-loop
-returns-2 c = (c .before .before .before .loop .inv .1, c .before .before .before .loop .inv .2)
+returns-2 c = (omega (arith, c .before .before .before .loop .inv .1), c .before .before .before .loop .inv .2)
 
 sub-i : tie.Need-sub-i Inv-loop μ-loop
 sub-i c = search needs
@@ -43,7 +47,15 @@ loop-less : tie.Need-loop-less Inv-loop μ-loop
 loop-less c = search needs
 
 loop-again : tie.Need-loop-again Inv-loop μ-loop
-loop-again c = (c .before .before .before .loop .inv .0, omega (arith, c .before .before .before .loop .inv .1), one-down (λ j. blankAt (24 * j) (now (c .before .before .before .before .before .before .args .table)) ≡ true) (c .before .before .before .loop .i) (c .before .before .loop-test .taken) (sym (c .before .blank-at .ensures) ∙ c .if2 .taken) (c .before .before .before .loop .inv .2))
+loop-again c =
+    let at = c .before .before .before in
+    let i = at .loop .i in
+    let free : ℕ → Type 0 = λ j. blankAt (48 * j) (now (at .before .before .before .args .table)) ≡ true in
+    let pair = both _ _ (sym (c .before .pair-blank .ensures) ∙ c .if2 .taken) in
+    let later : 48 * (2 * i - 1) ≡ 96 * (i - 1) + 48 = omega (arith, c .before .before .loop-test .taken) in
+    let sooner : 48 * (2 * i - 1 - 1) ≡ 96 * (i - 1) = omega (arith, c .before .before .loop-test .taken) in
+    let down = one-down free (2 * i) (omega (arith, c .before .before .loop-test .taken)) (rw later (pair .0)) (at .loop .inv .2) in
+    (at .loop .inv .0, omega (arith, at .loop .inv .1), λ j l h. one-down free (2 * i - 1) (omega (arith, c .before .before .loop-test .taken)) (rw sooner (pair .1)) down j (omega (arith, l)) h)
 
 returns-3 : tie.Need-returns-3 Inv-loop μ-loop
 returns-3 c = (omega arith, λ j l h. c .before .loop .inv .2 j (omega (arith, c .loop-test .left)) h)
@@ -56,9 +68,10 @@ used-spec =
     μ-loop
     returns
     loop-holds
-    sub-blank-at
-    mul-blank-at
-    blank-at-requires
+    sub-pair-blank
+    mul-pair-blank
+    pair-blank-requires
+    mul-result
     returns-2
     sub-i
     loop-less

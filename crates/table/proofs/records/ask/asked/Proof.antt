@@ -46,6 +46,9 @@ slice-aggregate-find-2 c = search needs
 find-requires-2 : tie.Need-find-requires-2
 find-requires-2 c κs = tt
 
+find-link-requires : tie.Need-find-link-requires
+find-link-requires c κs = tt
+
 peer-at-requires : tie.Need-peer-at-requires
 peer-at-requires c κs = tt
 
@@ -54,7 +57,7 @@ asked-at-requires c κs = tt
 
 returns-3 : tie.Need-returns-3
 unfolding askedOf askedAt firstOf unless
-returns-3 c = rw (le-ltb _ _ (c .before .before .before .before .before .before .before .before .before .before .before .before .if1 .left), ← well-of (c .before .before .before .before .before .before .before .before .before .before .before .before .before .args .s) (c .before .before .before .before .before .before .before .before .before .before .before .before .before .args .t) (c .before .before .before .before .before .before .before .before .before .before .before .survey .result) (c .before .before .before .before .before .before .before .before .before .before .before .survey .ensures) _ (c .before .before .before .before .before .before .before .before .well .ensures), c .before .before .before .before .before .before .before .if2 .taken, ← c .before .before .before .before .before .before .before .before .before .before .before .survey .ensures .3, ← c .before .before .before .before .before .find .ensures, ← c .before .before .find2 .ensures, ← c .before .peer-at .ensures, ← c .before .before .before .before .others .ensures (c .before .before .before .before .before .before .before .before .before .before .before .before .before .args .t) (c .before .before .before .before .before .before .before .before .before .before .before .survey .ensures .2) (c .before .before .before .before .before .before .before .before .before .before .before .survey .ensures .1)) (c .asked-at .ensures (c .before .before .before .before .before .before .before .before .before .before .before .before .before .args .t))
+returns-3 c = rw (le-ltb _ _ (c .before .before .before .before .before .before .before .before .before .before .before .before .before .if1 .left), ← well-of (c .before .before .before .before .before .before .before .before .before .before .before .before .before .before .args .s) (c .before .before .before .before .before .before .before .before .before .before .before .before .before .before .args .t) (c .before .before .before .before .before .before .before .before .before .before .before .before .survey .result) (c .before .before .before .before .before .before .before .before .before .before .before .before .survey .ensures) _ (c .before .before .before .before .before .before .before .before .before .well .ensures), c .before .before .before .before .before .before .before .before .if2 .taken, ← c .before .before .before .before .before .before .before .before .before .before .before .before .survey .ensures .3, ← c .before .before .before .before .before .before .find .ensures, ← c .before .before .before .find2 .ensures, ← c .before .before .find-link .ensures, ← c .before .peer-at .ensures, ← c .before .before .before .before .before .others .ensures (c .before .before .before .before .before .before .before .before .before .before .before .before .before .before .args .t) (c .before .before .before .before .before .before .before .before .before .before .before .before .survey .ensures .2) (c .before .before .before .before .before .before .before .before .before .before .before .before .survey .ensures .1)) (c .asked-at .ensures (c .before .before .before .before .before .before .before .before .before .before .before .before .before .before .args .t))
 
 pub asked-spec : {M : Type 1} → statement M
 asked-spec =
@@ -72,6 +75,7 @@ asked-spec =
     others-requires
     slice-aggregate-find-2
     find-requires-2
+    find-link-requires
     peer-at-requires
     asked-at-requires
     returns-3)

@@ -32,11 +32,11 @@ settled-requires-2 c κs = tt
 enum-known-r-2 : tie.Need-enum-known-r-2
 enum-known-r-2 c = search needs
 
+seek-requires : tie.Need-seek-requires
+seek-requires c κs = tt
+
 find-requires : tie.Need-find-requires
 find-requires c κs = tt
-
-find-requires-2 : tie.Need-find-requires-2
-find-requires-2 c κs = tt
 
 peer-at-requires : tie.Need-peer-at-requires
 peer-at-requires c κs = tt
@@ -58,7 +58,7 @@ returns-3 c = rw (c .before .before .enum-told2 .given .1, ← c .before .verdic
 
 returns-4 : tie.Need-returns-4
 unfolding heardFrom
-returns-4 c = rw (c .before .before .before .before .before .r2 .given .1, ← c .before .before .before .find .ensures, ← c .before .before .find2 .ensures, ← c .before .peer-at .ensures) (c .heard-from .ensures (c .before .before .before .before .before .before .before .before .args .t))
+returns-4 c = rw (c .before .before .before .before .before .r2 .given .1, ← c .before .before .before .seek .ensures, ← c .before .before .find .ensures, ← c .before .peer-at .ensures) (c .heard-from .ensures (c .before .before .before .before .before .before .before .before .args .t))
 
 pub heard-at-spec : {M : Type 1} → statement M
 heard-at-spec =
@@ -73,8 +73,8 @@ heard-at-spec =
     verdict-requires-2
     settled-requires-2
     enum-known-r-2
+    seek-requires
     find-requires
-    find-requires-2
     peer-at-requires
     heard-from-requires
     returns

@@ -16,6 +16,12 @@ enum-known-e c = search needs
 ask-requires : tie.Need-ask-requires
 ask-requires c κs = tt
 
+enum-told-2 : tie.Need-enum-told-2
+enum-told-2 c = search needs
+
+link-requires : tie.Need-link-requires
+link-requires c κs = tt
+
 enum-known-e-2 : tie.Need-enum-known-e-2
 enum-known-e-2 c = search needs
 
@@ -38,7 +44,13 @@ same-length-3 : tie.Need-same-length-3
 same-length-3 c = search needs
 
 returns-3 : tie.Need-returns-3
-returns-3 c = rw (c .before .before .before .before .before .e2 .given .1) (c .before .before .pass .ensures)
+returns-3 c = rw (c .before .before .before .before .enum-told2 .given .1) (c .before .before .link .ensures)
+
+same-length-4 : tie.Need-same-length-4
+same-length-4 c = search needs
+
+returns-4 : tie.Need-returns-4
+returns-4 c = rw (c .before .before .before .before .before .e2 .given .1) (c .before .before .pass .ensures)
 
 pub step-spec : {M : Type 1} → statement M
 step-spec =
@@ -48,6 +60,8 @@ step-spec =
     receive-requires
     enum-known-e
     ask-requires
+    enum-told-2
+    link-requires
     enum-known-e-2
     pass-requires
     same-length
@@ -55,4 +69,6 @@ step-spec =
     same-length-2
     returns-2
     same-length-3
-    returns-3)
+    returns-3
+    same-length-4
+    returns-4)

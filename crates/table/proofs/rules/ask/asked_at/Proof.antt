@@ -1,7 +1,6 @@
 -- `table::rules::ask::asked_at` meets its contract: each answer by the tests that led to it and what its callees ensure.
 -- Assumes nothing.
 use Rattle.table.specs.Refusals.{unless}
-use borrow.Author.Needs.{needs}
 use borrow.Author.Tests.{eq-eqb, ne-eqb}
 use Rattle.table.proofs.rules.ask.asked_at.Statement.{statement}
 use Rattle.table.proofs.rules.ask.asked_at.Tie as tie
@@ -22,12 +21,18 @@ aid-requires c κs = tt
 ask-requires : tie.Need-ask-requires
 ask-requires c κs = tt
 
+spoken-at-requires : tie.Need-spoken-at-requires
+spoken-at-requires c κs = tt
+
+towards-requires : tie.Need-towards-requires
+towards-requires c κs = tt
+
 turn-in-requires : tie.Need-turn-in-requires
 turn-in-requires c κs = tt
 
 returns-2 : tie.Need-returns-2
 unfolding unless
-returns-2 c = λ t. rw (← c .before .before .before .before .refusal .ensures, eq-eqb _ _ (c .before .before .before .if1 .left), ← c .before .before .aid .ensures, ← c .before .ask .ensures) (c .turn-in .ensures t)
+returns-2 c = λ t. rw (← c .before .before .before .before .before .before .refusal .ensures, eq-eqb _ _ (c .before .before .before .before .before .if1 .left), ← c .before .before .before .before .aid .ensures, ← c .before .before .before .ask .ensures, ← c .before .before .spoken-at .ensures, ← c .before .towards .ensures) (c .turn-in .ensures t)
 
 pub asked-at-spec : {M : Type 1} → statement M
 asked-at-spec =
@@ -38,5 +43,7 @@ asked-at-spec =
     returns
     aid-requires
     ask-requires
+    spoken-at-requires
+    towards-requires
     turn-in-requires
     returns-2)
