@@ -148,6 +148,16 @@ def titled(width, title, about):
     return canvas
 
 
+def ended(canvas, chart, width, words):
+    """What a chart ends with: the names again, and a remark of some lines across its width."""
+    chart.names(chart.y + 24)
+    canvas.rectangle(34, chart.y + 48, width - 68, 26 + 22 * len(words), "#f6f8fa", "#d8dee4", 8)
+    for at, line in enumerate(words):
+        canvas.text(52, chart.y + 77 + 22 * at, line)
+    canvas.height = chart.y + 98 + 22 * len(words)
+    return canvas
+
+
 def join():
     canvas = titled(1100, "A join", "A station and an access point that does not require RSNA, "
                     "each with its own table: what one writes the other hears, octet for octet.")

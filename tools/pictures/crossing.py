@@ -1,21 +1,18 @@
 """The message chart of two scanners without an access point that ask each other at once."""
 
-from .charts import Chart, Lines, play, titled
+from .charts import Chart, Lines, ended, play, titled
 from .scenes import BOTH_ASK, BOTH_ASK_PARTS
 
 WIDTH = 1100
 OWN_1, TABLE_1, TABLE_2, OWN_2 = 176, 428, 730, 1006
 
-
-def remark(canvas, y):
-    """What a scanner that asks alone hears, by the scene that is played for it."""
-    canvas.rectangle(34, y, WIDTH - 68, 70, "#f6f8fa", "#d8dee4", 8)
-    lines = ("The request that is heard takes the place of a scanner's own, so the answer to its own "
-             "finds nothing to end.",
-             "A scanner that asks alone is told of the answer, AUTHENTICATE.confirm, status 0, and is in "
-             "State 2 as well.")
-    for at, words in enumerate(lines):
-        canvas.text(52, y + 29 + 22 * at, words)
+# What a scanner that asks alone hears, by the scene that is played for it.
+REMARK = (
+    "The request that is heard takes the place of a scanner's own, so the answer to its own "
+    "finds nothing to end.",
+    "A scanner that asks alone is told of the answer, AUTHENTICATE.confirm, status 0, and is in "
+    "State 2 as well.",
+)
 
 
 def crossing():
@@ -25,7 +22,4 @@ def crossing():
                            TABLE_2: "Scanner 2's table", OWN_2: "Scanner 2's own side"})
     sides = {"one": Lines(OWN_1, TABLE_1, TABLE_2), "two": Lines(OWN_2, TABLE_2, TABLE_1)}
     play(chart, sides, BOTH_ASK, {"one": (0, 0, 0), "two": (0, 0, 0)}, BOTH_ASK_PARTS)
-    chart.names(chart.y + 24)
-    remark(canvas, chart.y + 48)
-    canvas.height = chart.y + 48 + 70 + 24
-    return canvas
+    return ended(canvas, chart, WIDTH, REMARK)
