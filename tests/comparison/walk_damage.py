@@ -1,5 +1,7 @@
 """Short bench inputs that are damaged, and walks whose settings are out of range."""
 
+import functools
+
 from tools import bench_input as bench
 
 from .walk import NETWORK, OWN, Walk
@@ -107,8 +109,9 @@ def every_count():
     return bench.settings(**GOOD) + b"".join(bench.links(PEER, RADIOS[:count]) for count in range(256))
 
 
+@functools.cache
 def damaged_inputs():
-    """All of them, always the same ones in the same order."""
+    """All of them, always the same ones in the same order; made once, as each is asked for by its number."""
     middle = [_placed(bad, place) for bad in bad_records() for place in (1, 3)]
     return cuts() + middle + bad_starts() + [every_count()]
 
