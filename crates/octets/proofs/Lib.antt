@@ -4,6 +4,7 @@ pub mod Numbers
 pub mod Le
 pub mod Below
 pub mod PublicAction
+pub mod Sorts
 pub mod Walk
 pub mod Elements
 pub mod Stores

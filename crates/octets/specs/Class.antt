@@ -46,6 +46,10 @@ named (suc zero) = One
 named (suc (suc zero)) = Two
 named (suc (suc (suc n))) = Three
 
+-- The class in the list, by the type and subtype in Frame Control's first octet.
+unfoldable pub listedClass : ℕ → FrameClass
+listedClass first = named (classNumber (typeOf first) (subtypeOf first))
+
 abbrev pub classless : FrameClass → Bool
 classless None = true
 classless One = false

@@ -3,6 +3,7 @@ pub mod Pick
 pub mod Address
 pub mod Field
 pub mod Class
+pub mod Sort
 pub mod Element
 pub mod Heard
 pub mod Shape

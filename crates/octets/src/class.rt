@@ -3,7 +3,7 @@ use crate::field::octet_at;
 ghost use mathlib.Core.Path.{_≡_};
 ghost use Prim.Native.Nat.{_/_, _%_, _<_};
 ghost use Rattle.octets.specs.Field.{field};
-ghost use Rattle.octets.specs.Class.{isPublicAction, classOf, classNumber, classless, named, isDirect, directClass, classIn};
+ghost use Rattle.octets.specs.Class.{isPublicAction, classOf, classNumber, classless, listedClass, named, isDirect, directClass, classIn};
 
 pub enum FrameClass {
     // No class: discarded.
@@ -96,6 +96,13 @@ fn entry(i: usize) -> FrameClass
     CLASSES[i]
 }
 
+// The class in the list, by the type and subtype in the first octet of Frame Control.
+pub fn listed(first: u8) -> FrameClass
+    ensures { λ r. ⌜ r ≡ listedClass first ⌝ }
+{
+    entry((first / 4 % 4 * 16 + first / 16) as usize)
+}
+
 // Whether a frame, whose first octet is given, is an unprotected Public Action.
 fn public_action(first: u8, frame: &[u8]) -> bool
     requires { ⌜ first ≡ field 1 0 (now frame) ⌝ }
@@ -127,7 +134,7 @@ pub fn class(frame: &[u8]) -> FrameClass
     if public_action(first, frame) {
         return FrameClass::One;
     }
-    entry((first / 4 % 4 * 16 + first / 16) as usize)
+    listed(first)
 }
 
 // Whether two stations may send each other a frame without an access point.

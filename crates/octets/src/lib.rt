@@ -11,3 +11,4 @@ mod put;
 pub mod report;
 pub mod row;
 pub mod shape;
+pub mod sort;

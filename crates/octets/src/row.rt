@@ -6,8 +6,9 @@ use crate::put::put_u16;
 use crate::put::put_u32;
 use crate::put::put_u64;
 ghost use mathlib.Core.Path.{_≡_};
+ghost use mathlib.Core.Bool.{_&&_};
 ghost use Prim.Native.Nat.{_+_, _≤_};
-ghost use lib.Dec.{leb};
+ghost use lib.Dec.{eqb, leb};
 ghost use lib.ListN.{getD, length};
 ghost use Rattle.octets.specs.Field.{field};
 ghost use Rattle.octets.specs.Stored.{Stored};
@@ -85,14 +86,21 @@ fn empty_at(s: &[u8], at: usize) -> bool
     long(s, at + 16) == 0
 }
 
+// Whether there is room for a number of octets at a place.
+fn has_room(lent: usize, at: usize, n: usize) -> bool
+    ensures { λ r. ⌜ r ≡ leb (at + n) lent ⌝ }
+{
+    if lent < n {
+        return false;
+    }
+    if lent - n < at { false } else { true }
+}
+
 // Whether there is room for a row at a place.
 fn has_row(lent: usize, at: usize) -> bool
     ensures { λ r. ⌜ r ≡ leb (at + 48) lent ⌝ }
 {
-    if lent < Row::OCTETS {
-        return false;
-    }
-    if lent - Row::OCTETS < at { false } else { true }
+    has_room(lent, at, Row::OCTETS)
 }
 
 // The row at a place; all zero where the octets end before it does.
@@ -169,6 +177,67 @@ pub fn linkless_at(s: &[u8], at: usize) -> bool
     } else {
         false
     }
+}
+
+// 0 exactly if both numbers are: one test then serves many numbers, without a branch for each.
+fn either(a: u64, b: u64) -> u64
+    ensures { λ r. ⌜ eqb r 0 ≡ (eqb a 0 && eqb b 0) ⌝ }
+{
+    a | b
+}
+
+// 0 exactly if 24 octets are all zero.
+fn rest(s: &[u8], at: usize) -> u64
+    requires { ⌜ at + 24 ≤ length (now s) ⌝ }
+    ensures { λ r. ⌜ eqb r 0 ≡ emptyAt at (now (s .entry)) ⌝ }
+{
+    either(long(s, at), either(long(s, at + 8), long(s, at + 16)))
+}
+
+// 0 exactly if 48 octets are all zero.
+fn row_rest(s: &[u8], at: usize) -> u64
+    requires { ⌜ at + 48 ≤ length (now s) ⌝ }
+    ensures { λ r. ⌜ eqb r 0 ≡ (emptyAt at (now (s .entry)) && emptyAt (at + 24) (now (s .entry))) ⌝ }
+{
+    either(rest(s, at), rest(s, at + 24))
+}
+
+// 0 exactly if 192 octets are all zero, four rows.
+fn four_rest(s: &[u8], at: usize) -> u64
+    requires { ⌜ at + 192 ≤ length (now s) ⌝ }
+    ensures { λ r. ⌜ eqb r 0 ≡ ((emptyAt (at + 144) (now (s .entry)) && emptyAt (at + 144 + 24) (now (s .entry))) && ((emptyAt (at + 96) (now (s .entry)) && emptyAt (at + 96 + 24) (now (s .entry))) && ((emptyAt (at + 48) (now (s .entry)) && emptyAt (at + 48 + 24) (now (s .entry))) && (emptyAt at (now (s .entry)) && emptyAt (at + 24) (now (s .entry)))))) ⌝ }
+{
+    let first = either(row_rest(s, at + 48), row_rest(s, at));
+    either(row_rest(s, at + 144), either(row_rest(s, at + 96), first))
+}
+
+// Whether four rows at a place are there and free, the last first: in one test.
+pub fn blank_four(s: &[u8], at: usize) -> bool
+    ensures { λ r. ⌜ r ≡ (blankAt (at + 144) (now (s .entry)) && (blankAt (at + 96) (now (s .entry)) && (blankAt (at + 48) (now (s .entry)) && blankAt at (now (s .entry))))) ⌝ }
+{
+    if has_room(s.len(), at, 192) {} else {
+        return false;
+    }
+    four_rest(s, at) == 0
+}
+
+// 0 exactly if none of four rows has a link.
+fn four_links(s: &[u8], at: usize) -> u64
+    requires { ⌜ at + 192 ≤ length (now s) ⌝ }
+    ensures { λ r. ⌜ eqb r 0 ≡ (emptyAt (at + 144 + 24) (now (s .entry)) && (emptyAt (at + 96 + 24) (now (s .entry)) && (emptyAt (at + 48 + 24) (now (s .entry)) && emptyAt (at + 24) (now (s .entry))))) ⌝ }
+{
+    let first = either(rest(s, at + 48 + 24), rest(s, at + 24));
+    either(rest(s, at + 144 + 24), either(rest(s, at + 96 + 24), first))
+}
+
+// Whether four rows at a place are there and have no link, the last first: in one test.
+pub fn linkless_four(s: &[u8], at: usize) -> bool
+    ensures { λ r. ⌜ r ≡ (linklessAt (at + 144) (now (s .entry)) && (linklessAt (at + 96) (now (s .entry)) && (linklessAt (at + 48) (now (s .entry)) && linklessAt at (now (s .entry))))) ⌝ }
+{
+    if has_room(s.len(), at, 192) {} else {
+        return false;
+    }
+    four_links(s, at) == 0
 }
 
 // Stores what a row has of a query.

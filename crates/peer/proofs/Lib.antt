@@ -4,6 +4,7 @@ pub mod Roles
 pub mod Moved
 pub mod Keeps
 pub mod Classes
+pub mod Verdicts
 pub mod HearKeeps
 pub mod AskKeeps
 pub mod TickKeeps

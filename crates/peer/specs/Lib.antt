@@ -7,6 +7,7 @@ pub mod Moves
 pub mod Reply
 pub mod Turn
 pub mod Filter
+pub mod Verdict
 pub mod Authentication
 pub mod Farewell
 pub mod Challenge

@@ -7,16 +7,18 @@ use crate::challenge::query_response_heard;
 use crate::farewell::deauthentication_heard;
 use crate::farewell::disassociation_heard;
 use crate::filter::barred;
-use crate::filter::passes;
 use crate::record::Record;
 use crate::settings::Settings;
 use crate::turn::Turn;
 use crate::turn::replied;
 use crate::turn::still;
-use octets::class::FrameClass;
+use crate::verdict::passes_by;
 use octets::heard::Heard;
+use octets::sort::Sort;
+use octets::sort::class_by;
 ghost use mathlib.Core.Path.{_≡_};
 ghost use mathlib.Core.Bool.{true};
+ghost use Rattle.octets.specs.Sort.{classBy};
 ghost use Rattle.octets.specs.declared.heard.Heard.the-variants as heard;
 ghost use Rattle.peer.specs.Hear.{actOf, groupHeard, hearOf, isExchange, isQuery};
 
@@ -106,11 +108,11 @@ fn group_heard(s: Settings, p: Record, h: Heard) -> Turn
 }
 
 // What a frame from a peer makes of it.
-pub fn hear(s: Settings, p: Record, class: FrameClass, group: bool, h: Heard) -> Turn
-    ensures { λ r. ⌜ r ≡ hearOf s p class group h ⌝ }
+pub fn hear(s: Settings, p: Record, sort: Sort, group: bool, h: Heard) -> Turn
+    ensures { λ r. ⌜ r ≡ hearOf s p (classBy sort) group h ⌝ }
 {
-    if passes(s.role, class, p.state) {} else {
-        return replied(s, p, Turn::DISCARD, barred(s, p, class, group, h));
+    if passes_by(s.role, sort, p.state) {} else {
+        return replied(s, p, Turn::DISCARD, barred(s, p, class_by(sort), group, h));
     }
     // Most frames end here, and the compiler need not call `act` for them.
     if is_other(h) {

@@ -17,3 +17,4 @@ pub mod reply;
 pub mod settings;
 pub mod tick;
 pub mod turn;
+pub mod verdict;

@@ -5,6 +5,7 @@ pub mod Standings
 pub mod QueryStandings
 pub mod LinkStandings
 pub mod Surveys
+pub mod LinkSurveys
 pub mod HostLaws
 pub mod BoundaryLaws
 pub mod CallsInRow

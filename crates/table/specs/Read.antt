@@ -8,9 +8,9 @@ use Rattle.octets.specs.Pick.{pick}
 use Rattle.octets.specs.Address.{validOf, groupOf}
 use Rattle.octets.specs.Element.{brokenOf}
 use Rattle.octets.specs.Field.{field}
-use Rattle.octets.specs.Class.{classIn}
 use Rattle.octets.specs.Heard.{heardOf}
 use Rattle.octets.specs.Shape.{shapeOf}
+use Rattle.octets.specs.Sort.{sortOf}
 use Rattle.octets.specs.declared.shape.Shape.{Shape}
 use Rattle.octets.specs.declared.shape.Shape.the-variants.{Misfit, Classless, Bare, Full}
 use Rattle.table.specs.declared.rules.read.Reading.{Reading}
@@ -25,9 +25,9 @@ unfoldable pub readBare : ℕ → List ℕ → Reading
 readBare own xs = pick (forUs own (field 6 4 xs)) Admitted (Refused 4)
 
 -- 02, K7: "A (re)association response, at either role, whose elements do not end with the frame is refused. .. Refusals: 3, given after Address 2
--- has been checked and before the class." The class goes by whether there are access points (02, K10).
+-- has been checked and before the class." How the class is known goes by whether there are access points (02, K3 and K10).
 unfoldable pub readFrom : Bool → ℕ → ℕ → List ℕ → Reading
-readFrom infrastructure peer to xs = pick (brokenOf xs) (Refused 3) (From peer (groupOf to) (classIn infrastructure xs) (heardOf xs))
+readFrom infrastructure peer to xs = pick (brokenOf xs) (Refused 3) (From peer (groupOf to) (sortOf infrastructure xs) (heardOf xs))
 
 -- 4., then 5. "Address 2 (octets 10-15) invalid or own: 3. It names the peer."
 unfoldable pub readFull : ℕ → Bool → List ℕ → Reading

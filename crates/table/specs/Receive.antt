@@ -6,6 +6,7 @@ use mathlib.Core.List.{List}
 use lib.Dec.{ltb}
 use Rattle.octets.specs.Pick.{pick}
 use Rattle.octets.specs.Frame.{longest}
+use Rattle.octets.specs.Sort.{classBy}
 use Rattle.octets.specs.declared.class.FrameClass.{FrameClass}
 use Rattle.octets.specs.declared.heard.Heard.{Heard}
 use Rattle.peer.specs.Turn.{admit, discard, towardsOf}
@@ -34,7 +35,7 @@ abbrev pub heardAt : Settings → List Record → List ℕ → Reading → Met
 heardAt s t ads (Refused n) = refusedOf t n
 heardAt s t ads Discarded = settledOf t (verdictAnswer discard)
 heardAt s t ads Admitted = settledOf t (verdictAnswer admit)
-heardAt s t ads (From peer group k h) = heardFrom s t ads peer group k h
+heardAt s t ads (From peer group k h) = heardFrom s t ads peer group (classBy k) h
 
 -- A frame xs, lent a buffer of n octets. 1. "Refusals 1, 2", then as it reads.
 unfoldable pub receivedOf : Settings → List Record → List ℕ → ℕ → Met

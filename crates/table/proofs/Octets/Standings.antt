@@ -167,3 +167,12 @@ unfolding recordFits linksFit noLinks linkedOf recordOf queryAllowed associates 
 by-exchange s r x low high own ok hold id query h =
     let q = both (queryNumbered (r .query) (r .remaining)) _ query in
     (rw (q .0, query-allowed s r id (q .1), low, high, own, ok, hold, and-true (exchangeFits (exchangeOf (r .exchange)) (s .role) (r .state) (r .left))) (h .0), h .1)
+
+-- A row that has neither an exchange nor a query, and fits otherwise.
+pub plain-stands : (s : Settings) (r : Row) → leb 1 (r .state) ≡ true → leb (r .state) (highestState (s .role)) ≡ true → eqb (r .address) (s .own) ≡ false → validOf (r .address) ≡ true
+    → holdFits (s .role) (r .hold) ≡ true → r .identifier ≤ 65535 → r .exchange ≡ 0 → r .left ≡ 0 → r .query ≡ 0 → r .remaining ≡ 0
+    → ((rowNumbered r && recordFits s (linkedOf (recordOf r) unlinked)) ≡ true) × (associates (recordOf r) ≡ false)
+unfolding queryNumbered queryOf exchangeOf
+plain-stands s r low high own ok hold id e l q m =
+    let h = by-exchange s r (record { fit = true; associating = false }) low high own ok hold id (rw (q, m) refl) (rw (e, l) (refl, λ t. refl)) in
+    (sym (h .0), sym (h .1 refl))

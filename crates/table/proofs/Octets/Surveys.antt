@@ -1,5 +1,5 @@
 -- What a pass over a table's octets, from the last place to the first, has found: every place passed is well formed but for its links, no address stands
--- there twice, what is counted of them, and whether any has links (`Surveyed`).
+-- there twice, and what is counted of them (`Surveyed`).
 -- Assumes nothing.
 use mathlib.Core.Path.{_≡_, refl, ap, sym, _∙_}
 use mathlib.Core.Bool.{Bool, true, false, not, _&&_, _||_}
@@ -13,7 +13,7 @@ use borrow.Author.Tests.{eqb-true, eqb-false, not-true}
 use Rattle.octets.specs.Address.{validOf}
 use Rattle.octets.specs.Links.{noLinks}
 use Rattle.octets.specs.Pick.{pick}
-use Rattle.octets.specs.Row.{blankAt, linklessAt, rowAt}
+use Rattle.octets.specs.Row.{blankAt, rowAt}
 use Rattle.octets.specs.declared.row.Row.{Row}
 use Rattle.octets.proofs.Branch.{by-bool}
 use Rattle.octets.proofs.RowTrip.{blank-row, row-blank}
@@ -25,14 +25,14 @@ use Rattle.peer.specs.declared.record.Record.{Record}
 use Rattle.peer.specs.declared.settings.Settings.{Settings}
 use Rattle.table.specs.Fit.{apart, crowdOf, linksApart, sparseOf, wellFormed}
 use Rattle.table.specs.Others.{associatedOf}
-use Rattle.table.specs.Places.{addressesOf, allOf, linkAddressesOf, someOf}
+use Rattle.table.specs.Places.{addressesOf, allOf, linkAddressesOf}
 use Rattle.table.specs.Rows.{linkedIn, rowNumbered, numberedAt, recordOf, recordsOf}
-use Rattle.table.proofs.Passes.Loops.{all-end, all-step, and-false, and-true, left-end, left-step}
+use Rattle.table.proofs.Passes.Loops.{all-end, all-step, and-false, and-true}
 use Rattle.table.proofs.Passes.Marks.{Passed, markOf, passed-all, passed-none, passed-one, passed-zero, same-twice}
 use Rattle.table.proofs.Order.OwnRecord.{all-at, wf-distinct, wf-fits}
 use Rattle.table.proofs.Octets.RowLaws.{address-at, at-place, blank-free, blank-numbered, length-addresses, length-records, numbered-end, numbered-row, numbered-step}
 use Rattle.table.proofs.Octets.Standings.{free-row}
-use Rattle.table.proofs.Octets.LinkStandings.{all-both, bareFits, bareOf, linkless-links, record-both}
+use Rattle.table.proofs.Octets.LinkStandings.{all-both, bareFits, bareOf, record-both}
 use Rattle.table.proofs.Passes.Tallies.{Tallied, tallied-all, tallied-free, tallied-more, tallied-none}
 
 -- What holds of the places from i on, and of the one before.
@@ -51,16 +51,14 @@ fails true h = absurd (h refl)
 fails false h = refl
 
 -- xs: the octets of the table. What is found in the places from i on.
-pub record Surveyed (s : Settings) (xs : List ℕ) (marks : List Bool) (associated joined associating : ℕ) (linked : Bool) (i : ℕ) : Type 0 where
+pub record Surveyed (s : Settings) (xs : List ℕ) (marks : List Bool) (associated joined associating i : ℕ) : Type 0 where
   pub long : length xs ≡ 1536
   pub tally : Tallied (recordsOf xs) associated joined associating i
   pub fits : allOf (bareFits s) (drop i (recordsOf xs)) ≡ true
   pub numbered : numberedAt (32 - i) (48 * i) xs ≡ true
   pub passed : Passed markOf (addressesOf (recordsOf xs)) marks i
-  pub links : linked ≡ linkedIn (drop i (recordsOf xs))
 
-surveyed-none : (s : Settings) (xs : List ℕ) → length xs ≡ 1536 → (marks : List Bool) → length marks ≡ 256 → (i : ℕ) → i ≡ 32 → Surveyed s xs marks 0 0 0 false i
-unfolding someOf
+surveyed-none : (s : Settings) (xs : List ℕ) → length xs ≡ 1536 → (marks : List Bool) → length marks ≡ 256 → (i : ℕ) → i ≡ 32 → Surveyed s xs marks 0 0 0 i
 surveyed-none s xs n marks w i e =
     let over : length (recordsOf xs) ≤ i = rw (length-records 32 0 xs) (omega arith) in
     let end : i ≡ length (addressesOf (recordsOf xs)) = e ∙ sym (length-addresses xs) in
@@ -70,10 +68,9 @@ surveyed-none s xs n marks w i e =
       fits = all-end (bareFits s) (recordsOf xs) i over;
       numbered = numbered-end i xs (omega arith);
       passed = rw end (passed-none markOf (addressesOf (recordsOf xs)) marks (λ a. rw w (omega arith)));
-      links = sym (left-end linkedIn (recordsOf xs) i over);
     }
 
-module _ (s : Settings) (xs : List ℕ) (marks : List Bool) (associated joined associating : ℕ) (linked : Bool) (i : ℕ) (v : Surveyed s xs marks associated joined associating linked i) (z : 0 < i) where
+module _ (s : Settings) (xs : List ℕ) (marks : List Bool) (associated joined associating i : ℕ) (v : Surveyed s xs marks associated joined associating i) (z : 0 < i) where
   next : i - 1 + 1 ≡ i
   next = omega arith
 
@@ -86,12 +83,8 @@ module _ (s : Settings) (xs : List ℕ) (marks : List Bool) (associated joined a
   more-fits : (p : Record) → p ≡ getD (recordsOf xs) (i - 1) freeOf → bareFits s p ≡ true → allOf (bareFits s) (drop (i - 1) (recordsOf xs)) ≡ true
   more-fits p e h = all-step (bareFits s) (recordsOf xs) (i - 1) freeOf inside′ ∙ rw (← e, h, next, v .fits)
 
-  more-links : (p : Record) → p ≡ getD (recordsOf xs) (i - 1) freeOf → (plain linked′ : Bool) → plain ≡ noLinks (p .links) → linked′ ≡ (not plain || linked) → linked′ ≡ linkedIn (drop (i - 1) (recordsOf xs))
-  unfolding someOf
-  more-links p e plain linked′ ep el = el ∙ sym (left-step linkedIn (recordsOf xs) (i - 1) freeOf inside′ ∙ rw (← e, ← ep, next, ← v .links))
-
   -- a free place more
-  pub surveyed-free : blankAt (48 * (i - 1)) xs ≡ true → Surveyed s xs marks associated joined associating linked (i - 1)
+  pub surveyed-free : blankAt (48 * (i - 1)) xs ≡ true → Surveyed s xs marks associated joined associating (i - 1)
   unfolding isFree noLinks
   surveyed-free b =
       let e : freeOf ≡ getD (recordsOf xs) (i - 1) freeOf = sym (blank-free (i - 1) xs inside b) in
@@ -102,17 +95,12 @@ module _ (s : Settings) (xs : List ℕ) (marks : List Bool) (associated joined a
         fits = more-fits freeOf e refl;
         numbered = blank-numbered (i - 1) xs inside b ∙ rw (next, v .numbered);
         passed = passed-zero (addressesOf (recordsOf xs)) marks i (v .passed) z 0 no-address refl;
-        links = more-links freeOf e true linked refl refl;
       }
 
   -- a record more: r its row
   module _ (r : Row) (er : r ≡ rowAt (48 * (i - 1)) xs) where
     here : recordOf r ≡ getD (recordsOf xs) (i - 1) freeOf
     here = ap recordOf er ∙ at-place (i - 1) xs inside
-
-    -- whether it has links
-    pub plain-row : (plain : Bool) → plain ≡ linklessAt (48 * (i - 1)) xs → plain ≡ noLinks (r .links)
-    plain-row plain e = e ∙ linkless-links (48 * (i - 1)) xs (rw (v .long) (omega (arith, inside))) ∙ rw er
 
     -- one that does not fit, in a place that is not free
     pub unfit-row : blankAt (48 * (i - 1)) xs ≡ false → (rowNumbered r && recordFits s (bareOf (recordOf r))) ≡ false → false ≡ (numberedAt 32 0 xs && wellFormed s (recordsOf xs))
@@ -145,28 +133,33 @@ module _ (s : Settings) (xs : List ℕ) (marks : List Bool) (associated joined a
         pub surveyed-used : (not (getD marks m false) || allOf (apart (r .address)) (drop (i - 1 + 1) (addressesOf (recordsOf xs)))) ≡ true
             → (associated′ : ℕ) → associated′ ≡ pick (leb 3 (r .state)) (r .address) associated → (joined′ : ℕ) → joined′ ≡ joined + pick (leb 3 (r .state)) 1 0
             → (asks : Bool) → asks ≡ associates (recordOf r) → (associating′ : ℕ) → associating′ ≡ associating + pick asks 1 0
-            → (plain : Bool) → plain ≡ noLinks (r .links) → (linked′ : Bool) → linked′ ≡ (not plain || linked) → Surveyed s xs (set marks m true) associated′ joined′ associating′ linked′ (i - 1)
+            → Surveyed s xs (set marks m true) associated′ joined′ associating′ (i - 1)
         unfolding isJoined recordOf
-        surveyed-used e associated′ ea joined′ ej asks es associating′ ek plain ep linked′ el =
+        surveyed-used e associated′ ea joined′ ej asks es associating′ ek =
             record {
               long = v .long;
               tally = tallied-more (recordsOf xs) associated joined associating i (v .tally) z (recordOf r) here associated′ ea joined′ ej associating′ (rw es at ek);
               fits = more-fits (recordOf r) here (or-right (isFree (recordOf r)) (recordFits s (bareOf (recordOf r))) (both (rowNumbered r) _ fit .1));
               numbered = numbered-step (i - 1) xs inside ∙ rw (← er, both (rowNumbered r) _ fit .0, next, v .numbered);
               passed = passed-one (addressesOf (recordsOf xs)) marks i (v .passed) z (r .address) at-place′ not-zero m em e;
-              links = more-links (recordOf r) here plain linked′ ep el;
             }
+
+        -- a row of which no more is to be asked, whose mark is new
+        pub surveyed-plain : getD marks m false ≡ false → associates (recordOf r) ≡ false
+            → (associated′ : ℕ) → associated′ ≡ pick (leb 3 (r .state)) (r .address) associated → (joined′ : ℕ) → joined′ ≡ joined + pick (leb 3 (r .state)) 1 0
+            → Surveyed s xs (set marks m true) associated′ joined′ associating (i - 1)
+        surveyed-plain new none associated′ ea joined′ ej = surveyed-used (rw new) associated′ ea joined′ ej false (sym none) associating (omega arith)
 
 -- Where every place from i on is free.
 pub surveyed-from : (s : Settings) (xs : List ℕ) → length xs ≡ 1536 → (marks : List Bool) → length marks ≡ 256 → (k i : ℕ) → i + k ≡ 32 → ((j : ℕ) → i ≤ j → j < 32 → blankAt (48 * j) xs ≡ true)
-    → Surveyed s xs marks 0 0 0 false i
+    → Surveyed s xs marks 0 0 0 i
 surveyed-from s xs n marks w zero i e b = surveyed-none s xs n marks w i (omega arith)
 surveyed-from s xs n marks w (suc k) i e b =
     let one : i + 1 - 1 ≡ i = omega arith in
-    rw one at (surveyed-free s xs marks 0 0 0 false (i + 1) (surveyed-from s xs n marks w k (i + 1) (omega arith) (λ j l h. b j (omega arith) h)) (omega arith) (rw one (b i (omega arith) (omega arith))))
+    rw one at (surveyed-free s xs marks 0 0 0 (i + 1) (surveyed-from s xs n marks w k (i + 1) (omega arith) (λ j l h. b j (omega arith) h)) (omega arith) (rw one (b i (omega arith) (omega arith))))
 
 -- After the first place: b is what is found of the crowd and of the links.
-module _ (s : Settings) (xs : List ℕ) (marks : List Bool) (associated joined associating : ℕ) (linked : Bool) (i : ℕ) (v : Surveyed s xs marks associated joined associating linked i) (h : i ≤ 0) (f : settingsFit s ≡ true) where
+module _ (s : Settings) (xs : List ℕ) (marks : List Bool) (associated joined associating i : ℕ) (v : Surveyed s xs marks associated joined associating i) (h : i ≤ 0) (f : settingsFit s ≡ true) (linked : Bool) (any-linked : linked ≡ linkedIn (recordsOf xs)) where
   abbrev Found : Bool → Type 0
   Found b =
       (b ≡ (numberedAt 32 0 xs && wellFormed s (recordsOf xs)))
@@ -174,9 +167,6 @@ module _ (s : Settings) (xs : List ℕ) (marks : List Bool) (associated joined a
 
   first : i ≡ 0
   first = omega arith
-
-  pub any-linked : linked ≡ linkedIn (recordsOf xs)
-  any-linked = rw first at (v .links)
 
   pub surveyed-all : (w : Bool) → w ≡ (roleAnswers (s .role) || (leb joined 1 && leb associating 1))
       → (l : Bool) → l ≡ (allOf (linksFit s) (recordsOf xs) && linksApart (linkAddressesOf (recordsOf xs)) (addressesOf (recordsOf xs))) → (b : Bool) → b ≡ (w && l) → Found b

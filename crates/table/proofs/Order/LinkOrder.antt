@@ -9,7 +9,7 @@ use mathlib.Core.List.{List, [], _∷_, map}
 use lib.Dec.{T}
 use lib.ListN.{getD}
 use Rattle.octets.specs.Address.{groupOf, validOf}
-use Rattle.octets.specs.Class.{classIn, classOf, isPublicAction}
+use Rattle.octets.specs.Class.{classIn, classOf, isPublicAction, listedClass}
 use Rattle.octets.specs.Element.{brokenOf, isResponse}
 use Rattle.octets.specs.Field.{octets}
 use Rattle.octets.specs.Frame.{bodyOf, bytesOf, headOf, lengthOf, writtenOf}
@@ -17,6 +17,7 @@ use Rattle.octets.specs.Heard.{authenticationOf, heardOf}
 use Rattle.octets.specs.Links.{noLinks}
 use Rattle.octets.specs.Shape.{isBare, leastManagement, leastOf, shapeOf}
 use Rattle.octets.specs.declared.links.Links.{Links}
+use Rattle.octets.specs.Sort.{isListed, sortOf}
 use Rattle.peer.specs.Ask.{answerOf, askOf}
 use Rattle.peer.specs.Authentication.{answeredMove, authenticationAsked, authenticationHeard, requestedOf}
 use Rattle.peer.specs.Filter.{barredOf}
@@ -89,7 +90,7 @@ pub record DeviceAtWork : Type 0 where
       ≡ (0 ∷ 0 ∷ 1 ∷ 9 ∷ []) ∷ (0 ∷ 30 ∷ 2 ∷ 0x1a ∷ []) ∷ (0 ∷ 0 ∷ 1 ∷ 9 ∷ []) ∷ (3 ∷ 0 ∷ 0 ∷ 9 ∷ []) ∷ (0 ∷ 30 ∷ 1 ∷ 0x0b ∷ []) ∷ (0 ∷ 26 ∷ 2 ∷ 0x1a ∷ []) ∷ []
 
 pub device-at-work : DeviceAtWork
-unfolding validOf groupOf octets classIn classOf isPublicAction isResponse brokenOf authenticationOf heardOf leastManagement isBare leastOf shapeOf headOf bodyOf
+unfolding validOf groupOf octets sortOf isListed listedClass classIn classOf isPublicAction isResponse brokenOf authenticationOf heardOf leastManagement isBare leastOf shapeOf headOf bodyOf
     bytesOf writtenOf lengthOf settingsFit queryTimesFit networkFits roleAnswers roleAsks roleAssociates timeFits freshOf isFree changedOf queryIn stands askedFits
     holdFits recordFits highestState queryAllowed placeFits dsOf networkAddress sendOf authenticationTo disassociationTo turnOf endedOf begunOf repliedOf barredOf
     requestedOf authenticationAsked answeredMove authenticationHeard hearOf codeAllowed roleAllowed conflictOf mismatchOf heldOf answerOf askOf firstFrom allTails

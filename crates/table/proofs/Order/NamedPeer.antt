@@ -22,6 +22,8 @@ use Rattle.octets.specs.Frame.{longest}
 use Rattle.octets.specs.declared.links.Links.{Links}
 use Rattle.octets.specs.declared.shape.Shape.{Shape}
 use Rattle.octets.specs.declared.shape.Shape.the-variants.{Misfit, Classless, Bare, Full}
+use Rattle.octets.specs.Sort.{classBy, sortOf}
+use Rattle.octets.proofs.Sorts.{sort-class}
 use Rattle.peer.proofs.Classes.{Classed, classed}
 use Rattle.peer.specs.Record.{freeOf}
 use Rattle.peer.specs.Refuse.{codeAllowed, roleAllowed}
@@ -51,7 +53,7 @@ unfolding readFull readFrom
 full-some own infrastructure xs a e = go (not (forUs own (field 6 4 xs))) (eqb (field 6 10 xs) own) (validOf (field 6 10 xs)) (brokenOf xs) refl e
   where
     go : (f o v b : Bool) → validOf (field 6 10 xs) ≡ v
-        → readPeer (pick f (Refused 4) (pick (o || not v) (Refused 3) (pick b (Refused 3) (From (field 6 10 xs) (groupOf (field 6 4 xs)) (classIn infrastructure xs) (heardOf xs))))) ≡ some a
+        → readPeer (pick f (Refused 4) (pick (o || not v) (Refused 3) (pick b (Refused 3) (From (field 6 10 xs) (groupOf (field 6 4 xs)) (sortOf infrastructure xs) (heardOf xs))))) ≡ some a
         → eqb a 0 ≡ false
     go true o v b q w = nobody w
     go false true v b q w = nobody w
@@ -78,7 +80,7 @@ abbrev pub Classes : Reading → Type 0
 Classes (Refused n) = Unit
 Classes Discarded = Unit
 Classes Admitted = Unit
-Classes (From peer group k h) = classless k ≡ false → Classed k h
+Classes (From peer group k h) = classless (classBy k) ≡ false → Classed (classBy k) h
 
 shape-classed : (h : Shape) (own : ℕ) (infrastructure : Bool) (xs : List ℕ) → Classes (readAs h own infrastructure xs)
 unfolding readBare readFull readFrom
@@ -88,7 +90,7 @@ shape-classed Bare own infrastructure xs = pick-both Classes (forUs own (field 6
 shape-classed Full own infrastructure xs =
     pick-both Classes (not (forUs own (field 6 4 xs))) tt
     (pick-both Classes (eqb (field 6 10 xs) own || not (validOf (field 6 10 xs))) tt
-    (pick-both Classes (brokenOf xs) tt (classed infrastructure xs)))
+    (pick-both Classes (brokenOf xs) tt (rw (sort-class infrastructure xs) (classed infrastructure xs))))
 
 pub read-classed : (own : ℕ) (infrastructure : Bool) (xs : List ℕ) → Classes (readOf own infrastructure xs)
 unfolding readOf

@@ -9,12 +9,13 @@ use lib.Dec.{T}
 use lib.ListN.{replicate, getD}
 use Rattle.octets.specs.Address.{validOf, groupOf}
 use Rattle.octets.specs.Field.{octets}
-use Rattle.octets.specs.Class.{classIn, classOf, isDirect, isPublicAction}
+use Rattle.octets.specs.Class.{classIn, classOf, isDirect, isPublicAction, listedClass}
 use Rattle.octets.specs.Element.{brokenOf, isResponse, walk}
 use Rattle.octets.specs.Heard.{authenticationOf, responseOf, heardOf}
 use Rattle.octets.specs.Shape.{leastManagement, isBare, leastOf, shapeOf}
 use Rattle.octets.specs.Frame.{capabilityOf, aidField, headOf, bodyOf, bytesOf, writtenOf, lengthOf}
 use Rattle.octets.specs.Links.{noLinks}
+use Rattle.octets.specs.Sort.{isListed, sortOf}
 use Rattle.peer.specs.Settings.{networkFits, queryTimesFit, roleAnswers, roleAsks, roleAssociates, settingsFit, timeFits}
 use Rattle.peer.specs.Query.{queryIn}
 use Rattle.peer.specs.Record.{isJoined, associates, freeOf, freshOf, isFree, changedOf, spokenAt}
@@ -112,7 +113,7 @@ pub record AtWork : Type 0 where
   newcomers-swapped : ends asAp (tableOf []) (ev (frame otherRequest) ∷ ev (frame authenticationRequest) ∷ []) ≡ (1, other) ∷ (1, them) ∷ []
 
 pub at-work : AtWork
-unfolding validOf groupOf octets classIn classOf isPublicAction walk isResponse brokenOf authenticationOf responseOf heardOf leastManagement isBare leastOf shapeOf capabilityOf
+unfolding validOf groupOf octets sortOf isListed listedClass classIn classOf isPublicAction walk isResponse brokenOf authenticationOf responseOf heardOf leastManagement isBare leastOf shapeOf capabilityOf
     aidField headOf bodyOf bytesOf writtenOf lengthOf settingsFit queryTimesFit networkFits roleAnswers roleAsks roleAssociates timeFits isJoined associates freshOf isFree changedOf queryIn stands askedFits awaitingFits
     sentFits holdFits recordFits highestState queryAllowed placeFits dsOf networkAddress sendOf authenticationTo disassociationTo requestTo responseTo turnOf endedOf
     begunOf repliedOf stillOf barredOf requestedOf authenticationAsked answeredMove authenticationAnswered authenticationHeard
@@ -182,7 +183,7 @@ pub record AdHocAtWork : Type 0 where
   after-second : ends adHocPeer both m₂ ≡ (2, them) ∷ (2, other) ∷ []
 
 pub ad-hoc-at-work : AdHocAtWork
-unfolding validOf groupOf octets classIn classOf isDirect isPublicAction isResponse brokenOf authenticationOf heardOf leastManagement isBare leastOf shapeOf headOf bodyOf
+unfolding validOf groupOf octets sortOf isListed listedClass classIn classOf isDirect isPublicAction isResponse brokenOf authenticationOf heardOf leastManagement isBare leastOf shapeOf headOf bodyOf
     bytesOf writtenOf lengthOf settingsFit queryTimesFit networkFits roleAnswers roleAsks roleAssociates timeFits freshOf isFree changedOf queryIn stands askedFits
     sentFits holdFits recordFits highestState queryAllowed placeFits dsOf networkAddress sendOf authenticationTo requestTo turnOf endedOf begunOf repliedOf stillOf
     barredOf requestedOf authenticationAsked answeredMove authenticationAnswered authenticationHeard hearOf codeAllowed roleAllowed conflictOf mismatchOf heldOf

@@ -13,6 +13,7 @@ use lib.Seq.{set-getD}
 use Rattle.octets.proofs.Branch.{pick-both}
 use Rattle.octets.specs.Pick.{pick}
 use Rattle.octets.specs.Frame.{longest}
+use Rattle.octets.specs.Sort.{classBy}
 use Rattle.peer.specs.Settings.{roleAnswers, roleAssociates}
 use Rattle.peer.specs.Record.{freeOf, spokenAt}
 use Rattle.peer.specs.Fit.{placeFits}
@@ -68,13 +69,13 @@ module _ (s : Settings) where
   heardNext p (Refused n) = p
   heardNext p Discarded = p
   heardNext p Admitted = p
-  heardNext p (From peer group k h) = hearOf s p k group h .peer
+  heardNext p (From peer group k h) = hearOf s p (classBy k) group h .peer
 
   abbrev heardGets : Record → Reading → List ℕ → Gets
   heardGets p (Refused n) out = settles (refusalAnswer n) out
   heardGets p Discarded out = settles (verdictAnswer discard) out
   heardGets p Admitted out = settles (verdictAnswer admit) out
-  heardGets p (From peer group k h) out = turned (towardsOf peer (hearOf s p k group h)) out
+  heardGets p (From peer group k h) out = turned (towardsOf peer (hearOf s p (classBy k) group h)) out
 
   -- a primitive's turn speaks to the first link
   abbrev asked : ℕ → Record → ℕ → ℕ → Turn
@@ -114,7 +115,7 @@ module _ (s : Settings) where
   same-read p (Refused n) = refl
   same-read p Discarded = refl
   same-read p Admitted = refl
-  same-read p (From peer group k h) = same-names p (hearOf s p k group h .peer) (hear-links s p k group h)
+  same-read p (From peer group k h) = same-names p (hearOf s p (classBy k) group h .peer) (hear-links s p (classBy k) group h)
 
   -- the law `same`, of the links too
   pub same-of : (i : ℕ) (p : Record) (c : Coming) → names (nextOf i p c) ≡ names p
@@ -159,7 +160,7 @@ module _ (s : Settings) where
           go (From peer group k g) b z y =
               let e : deviceOf t peer ≡ p .address = cc in
               let place = device-place s t well peer i (z peer refl) h e in
-              rw (place .1) (seated t i (towardsOf peer (hearOf s p k group g)) out (hear-alone s p (well .settings) role fits k group g (λ off. b)))
+              rw (place .1) (seated t i (towardsOf peer (hearOf s p (classBy k) group g)) out (hear-alone s p (well .settings) role fits (classBy k) group g (λ off. b)))
 
       acts-primitive : (q a c : ℕ) → comingPeer s t (primitive q a c) ≡ some (p .address) → told (askedOf s t q a c (length out)) out ≡ (set t i (nextOf i p (primitive q a c)), getsOf i p (primitive q a c) out)
       unfolding askedOf askedAt unless firstOf noPlace refusedOf settledOf towardsOf

@@ -11,6 +11,7 @@ use Rattle.octets.specs.Links.{noLinks}
 use Rattle.octets.specs.Pick.{pick}
 use Rattle.octets.specs.Frame.{longest}
 use Rattle.octets.proofs.Branch.{pick-both}
+use Rattle.octets.specs.Sort.{classBy}
 use Rattle.octets.specs.declared.class.FrameClass.{FrameClass}
 use Rattle.octets.specs.declared.heard.Heard.{Heard}
 use Rattle.peer.specs.Record.{freshOf, freeOf}
@@ -73,7 +74,7 @@ unfolding Leaves refusedOf settledOf
 read-leaves s t (Refused n) v = refl
 read-leaves s t Discarded v = refl
 read-leaves s t Admitted v = refl
-read-leaves s t (From a g k h) v = from-leaves s t k g h a v
+read-leaves s t (From a g k h) v = from-leaves s t (classBy k) g h a v
 
 -- "discard": whatever the frame, the table and the buffer, where the verdict is discard the table is the one that came in.
 pub discard-leaves : (s : Settings) (t : List Record) (xs : List ℕ) (n : ℕ) → receivedOf s t xs n .answer .verdict ≡ 2 → receivedOf s t xs n .table ≡ t

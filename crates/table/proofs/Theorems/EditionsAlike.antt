@@ -11,7 +11,8 @@ use lib.Dec.{eqb}
 use lib.ListN.{length}
 use borrow.Author.Tests.{eqb-true, not-true}
 use Rattle.octets.proofs.Branch.{by-bool}
-use Rattle.octets.specs.declared.class.FrameClass.{FrameClass}
+use Rattle.octets.specs.Sort.{classBy}
+use Rattle.octets.specs.declared.sort.Sort.{Sort}
 use Rattle.octets.specs.declared.heard.Heard.{Heard}
 use Rattle.peer.specs.Fit.{linksFit, placeFits, queryAllowed, queryFits, queryStands, recordFits, runningFits}
 use Rattle.peer.specs.Refuse.{one, roleAllowed}
@@ -101,8 +102,8 @@ module _ (s : Settings) (edition protection : ℕ) (fit : settingsFit (inEdition
 
   -- where a peer's turn is the same, so is what the frame is met with
   turn-alike :
-      (t : List Record) (peer : ℕ) (group : Bool) (k : FrameClass) (h : Heard)
-      → hearOf other (peerOf t (seekOf t (addressesOf t) peer) peer) k group h ≡ hearOf s (peerOf t (seekOf t (addressesOf t) peer) peer) k group h
+      (t : List Record) (peer : ℕ) (group : Bool) (k : Sort) (h : Heard)
+      → hearOf other (peerOf t (seekOf t (addressesOf t) peer) peer) (classBy k) group h ≡ hearOf s (peerOf t (seekOf t (addressesOf t) peer) peer) (classBy k) group h
       → heardAt other t (addressesOf t) (From peer group k h) ≡ heardAt s t (addressesOf t) (From peer group k h)
   unfolding heardFrom
   turn-alike t peer group k h e = rw (e, full-alike s edition protection (peerOf t (seekOf t (addressesOf t) peer) peer))
@@ -112,7 +113,7 @@ module _ (s : Settings) (edition protection : ℕ) (fit : settingsFit (inEdition
   read-alike t Discarded e = refl
   read-alike t Admitted e = refl
   read-alike t (From peer group k h) e =
-      turn-alike t peer group k h (hears-alike s edition protection (peerOf t (seekOf t (addressesOf t) peer) peer) k group h e)
+      turn-alike t peer group k h (hears-alike s edition protection (peerOf t (seekOf t (addressesOf t) peer) peer) (classBy k) group h e)
 
   received-alike :
       (t : List Record) (xs : List ℕ) (n : ℕ) → heardAt other t (addressesOf t) (readOf (s .own) (roleAssociates (s .role)) xs) ≡ heardAt s t (addressesOf t) (readOf (s .own) (roleAssociates (s .role)) xs)
@@ -166,7 +167,7 @@ module _ (s : Settings) (edition protection : ℕ) (fit : settingsFit (inEdition
     asking-read t Discarded = refl
     asking-read t Admitted = refl
     asking-read t (From peer group k h) =
-        turn-alike t peer group k h (station-hears-alike s edition protection (peerOf t (seekOf t (addressesOf t) peer) peer) (no-ap (s .role) asks) k group h)
+        turn-alike t peer group k h (station-hears-alike s edition protection (peerOf t (seekOf t (addressesOf t) peer) peer) (no-ap (s .role) asks) (classBy k) group h)
 
     asking-asked : (t : List Record) (q a c n : ℕ) → askedOf other t q a c n ≡ askedOf s t q a c n
     unfolding inEdition askedOf askedAt othersOf mayAsk

@@ -14,6 +14,7 @@ use Rattle.octets.specs.Class.{classOf, classless}
 use Rattle.octets.specs.Shape.{isBare, leastOf, shapeOf}
 use Rattle.octets.specs.Frame.{longest}
 use Rattle.octets.proofs.Branch.{by-bool}
+use Rattle.octets.specs.Sort.{classBy}
 use Rattle.peer.specs.Authentication.{fullOf}
 use Rattle.peer.specs.Hear.{hearOf}
 use Rattle.peer.specs.Ask.{askOf}
@@ -75,7 +76,7 @@ heard-gives s t Discarded = acts refl
 heard-gives s t Admitted = acts refl
 heard-gives s t (From peer group k h) =
     let at = seekOf t (addressesOf t) peer in
-    turn-gives t at (findOf (addressesOf t) 0) (towardsOf peer (hearOf s (peerOf t at peer) k group h)) (towardsOf peer (fullOf s (peerOf t at peer)))
+    turn-gives t at (findOf (addressesOf t) 0) (towardsOf peer (hearOf s (peerOf t at peer) (classBy k) group h)) (towardsOf peer (fullOf s (peerOf t at peer)))
 
 read-refusal : (own : ℕ) (infrastructure : Bool) (xs : List ℕ) → readRefusal (readOf own infrastructure xs) ≡ firstOf (readRefusals own xs)
 unfolding readOf shapeOf readBare readFull readFrom firstOf

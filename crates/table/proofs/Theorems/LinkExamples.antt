@@ -8,16 +8,17 @@ use mathlib.Core.List.{List, [], _∷_, map}
 use native.Mathlib.Omega.{arith}
 use lib.ListN.{getD, replicate}
 use Rattle.octets.specs.Address.{groupOf, validOf}
-use Rattle.octets.specs.Class.{classIn, classOf, isPublicAction}
+use Rattle.octets.specs.Class.{classIn, classOf, isPublicAction, listedClass}
 use Rattle.octets.specs.Element.{brokenOf, isResponse}
 use Rattle.octets.specs.Field.{octets}
 use Rattle.octets.specs.Frame.{bodyOf, bytesOf, headOf, lengthOf, writtenOf}
 use Rattle.octets.specs.Heard.{heardOf}
 use Rattle.octets.specs.Links.{linksAt, noLinks, unlinked}
 use Rattle.octets.specs.Shape.{isBare, leastOf, shapeOf}
-use Rattle.octets.specs.declared.class.FrameClass.the-variants as class
+use Rattle.octets.specs.declared.sort.Sort.the-variants.{Listed}
 use Rattle.octets.specs.declared.heard.Heard.the-variants as heard
 use Rattle.octets.specs.declared.links.Links.{Links}
+use Rattle.octets.specs.Sort.{isListed, sortOf}
 use Rattle.peer.specs.Ask.{askOf, deauthenticateOf}
 use Rattle.peer.specs.Filter.{barredOf}
 use Rattle.peer.specs.Fit.{highestState, holdFits, linksFit, linksStand, placeFits, queryAllowed, recordFits, slotFits}
@@ -78,14 +79,14 @@ abbrev dataFrom : ℕ → List ℕ
 dataFrom a = 0x08 ∷ 1 ∷ 0 ∷ 0 ∷ 0x0a ∷ 0 ∷ 0 ∷ 0 ∷ 0 ∷ 0 ∷ a ∷ 0 ∷ 0 ∷ 0 ∷ 0 ∷ 0 ∷ 0x0e ∷ 0 ∷ 0 ∷ 0 ∷ 0 ∷ 0 ∷ 0 ∷ 0 ∷ []
 
 both-read :
-    (readOf (site .own) (roleAssociates (site .role)) (dataFrom 0x12) ≡ From 0x12 false class.Three heard.Other)
-    × (readOf (site .own) (roleAssociates (site .role)) (dataFrom 0x14) ≡ From 0x14 false class.Three heard.Other)
-unfolding validOf groupOf roleAssociates classIn classOf isPublicAction isResponse brokenOf heardOf isBare leastOf shapeOf forUs readFrom readFull readOf
+    (readOf (site .own) (roleAssociates (site .role)) (dataFrom 0x12) ≡ From 0x12 false (Listed 0x08) heard.Other)
+    × (readOf (site .own) (roleAssociates (site .role)) (dataFrom 0x14) ≡ From 0x14 false (Listed 0x08) heard.Other)
+unfolding validOf groupOf roleAssociates sortOf isListed classOf isPublicAction isResponse brokenOf heardOf isBare leastOf shapeOf forUs readFrom readFull readOf
 both-read = (refl, refl)
 
 both-alike : stepOf site known event.Frame (dataFrom 0x14) 37 ≡ stepOf site known event.Frame (dataFrom 0x12) 37
 unfolding someOf
-both-alike = steps-link-alike site known 0 0x12 0x14 refl refl false class.Three heard.Other (dataFrom 0x12) (dataFrom 0x14) (both-read .0) (both-read .1) 37
+both-alike = steps-link-alike site known 0 0x12 0x14 refl refl false (Listed 0x08) heard.Other (dataFrom 0x12) (dataFrom 0x14) (both-read .0) (both-read .1) 37
 
 -- the same, octet for octet
 abbrev ahead : Head
@@ -102,7 +103,7 @@ both-the-same = steps-frame-alike site known 0 (six 0x12) (six 0x14) refl refl r
 back-to-link :
     ReadsTo site 0x14 (heard.Deauthentication 7)
     (0xc0 ∷ 0 ∷ 0 ∷ 0 ∷ 0x14 ∷ 0 ∷ 0 ∷ 0 ∷ 0 ∷ 0 ∷ 0x0a ∷ 0 ∷ 0 ∷ 0 ∷ 0 ∷ 0 ∷ 0x0a ∷ 0 ∷ 0 ∷ 0 ∷ 0 ∷ 0 ∷ 0 ∷ 0 ∷ 7 ∷ 0 ∷ [])
-unfolding validOf groupOf octets classIn classOf isPublicAction isResponse brokenOf heardOf isBare leastOf shapeOf headOf bodyOf bytesOf writtenOf lengthOf
+unfolding validOf groupOf octets sortOf isListed listedClass classIn classOf isPublicAction isResponse brokenOf heardOf isBare leastOf shapeOf headOf bodyOf bytesOf writtenOf lengthOf
     settingsFit queryTimesFit networkFits roleAnswers roleAsks roleAssociates timeFits isJoined associates isFree holdFits recordFits highestState queryAllowed
     placeFits dsOf networkAddress sendOf deauthenticationTo turnOf repliedOf barredOf hearOf firstFrom allTails countOf aloneIn crowdOf sparseOf wellFormed settledOf
     refusedOf steppedOf seatedOf forUs readFrom readFull readOf heardFrom receivedOf noLinks linksFit linksStand slotFits linkAddressesOf someOf findLinkOf seekOf

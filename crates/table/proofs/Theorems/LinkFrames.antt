@@ -23,6 +23,7 @@ use Rattle.octets.specs.declared.class.FrameClass.{FrameClass}
 use Rattle.octets.specs.declared.links.Links.{Links}
 use Rattle.octets.specs.declared.shape.Shape.the-variants.{Bare, Classless, Full, Misfit}
 use Rattle.octets.specs.declared.shape.Shape.{Shape}
+use Rattle.octets.specs.Sort.{isListed, sortOf}
 use Rattle.peer.proofs.Fits.{Fits, both, fits-of, wrong}
 use Rattle.peer.proofs.Spoken.{linked-stand}
 use Rattle.peer.specs.Fit.{linksStand, placeFits, slotFits}
@@ -101,6 +102,10 @@ module _ (own : ℕ) (infrastructure : Bool) (h : Head) (a b : Six) (rest : List
   unfolding classIn classOf isPublicAction
   class-same = rw (direct-same (classOf (sent h a rest)))
 
+  sort-same : sortOf infrastructure (sent h b rest) ≡ sortOf infrastructure (sent h a rest)
+  unfolding sortOf isListed
+  sort-same = rw class-same
+
   heard-same : heardOf (sent h b rest) ≡ heardOf (sent h a rest)
   unfolding heardOf authenticationOf responseOf queryOf
   heard-same = refl
@@ -118,7 +123,7 @@ module _ (own : ℕ) (infrastructure : Bool) (h : Head) (a b : Six) (rest : List
       by-bool (forUs own (field 6 4 (sent h a rest)))
       (λ e. by-bool (brokenOf (sent h a rest))
       (λ f. rw (e, fa, fb, broken-same, f))
-      (λ f. rw (e, fa, fb, broken-same, f, class-same, heard-same)))
+      (λ f. rw (e, fa, fb, broken-same, f, sort-same, heard-same)))
       (λ e. rw e)
 
   read-same : readOf own infrastructure (sent h b rest) ≡ retold (second b) (readOf own infrastructure (sent h a rest))

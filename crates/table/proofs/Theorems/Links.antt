@@ -18,7 +18,8 @@ use Rattle.octets.proofs.Branch.{by-bool, pick-both}
 use Rattle.octets.proofs.Lengths.{bytes-length}
 use Rattle.octets.specs.Frame.{lengthOf, longest}
 use Rattle.octets.specs.Links.{linksOf}
-use Rattle.octets.specs.declared.class.FrameClass.{FrameClass}
+use Rattle.octets.specs.Sort.{classBy}
+use Rattle.octets.specs.declared.sort.Sort.{Sort}
 use Rattle.octets.specs.declared.heard.Heard.{Heard}
 use Rattle.octets.specs.declared.links.Links.{Links}
 use Rattle.peer.proofs.Fits.{both, clash, wrong}
@@ -144,7 +145,7 @@ alike-stepped b m u n k =
     let long : saidLength (u .reply) n ≡ saidLength (m .reply) n = ap (λ (r : Reply). saidLength r n) (k .reply) ∙ said-alike b n (m .reply) in
     λ j. record { table = k .table j; answer = countAnswer (k .answer j) (long j) }
 
-module _ (s : Settings) (t : List Record) (i a b : ℕ) (la : leads (getD t i freeOf) a ≡ true) (lb : leads (getD t i freeOf) b ≡ true) (group : Bool) (k : FrameClass) (h : Heard) (xs ys : List ℕ) (rx : readOf (s .own) (roleAssociates (s .role)) xs ≡ From a group k h) (ry : readOf (s .own) (roleAssociates (s .role)) ys ≡ From b group k h) (n : ℕ) where
+module _ (s : Settings) (t : List Record) (i a b : ℕ) (la : leads (getD t i freeOf) a ≡ true) (lb : leads (getD t i freeOf) b ≡ true) (group : Bool) (k : Sort) (h : Heard) (xs ys : List ℕ) (rx : readOf (s .own) (roleAssociates (s .role)) xs ≡ From a group k h) (ry : readOf (s .own) (roleAssociates (s .role)) ys ≡ From b group k h) (n : ℕ) where
   -- Whatever the table: one that is not well formed refuses both.
   pub link-alike : Alike b (receivedOf s t xs n) (receivedOf s t ys n)
   unfolding receivedOf refusedOf settledOf heardFrom seatedOf towardsOf
@@ -154,7 +155,7 @@ module _ (s : Settings) (t : List Record) (i a b : ℕ) (la : leads (getD t i fr
       (λ w.
       let there = seek-place s t w a (read-named s xs a (ap readPeer rx)) i la in
       let here = seek-place s t w b (read-named s ys b (ap readPeer ry)) i lb in
-      rw (e, w, rx, ry, there, here) (record { table = refl; answer = refl; reply = sym (directed-twice a b (hearOf s (getD t i freeOf) k group h .reply)) }))
+      rw (e, w, rx, ry, there, here) (record { table = refl; answer = refl; reply = sym (directed-twice a b (hearOf s (getD t i freeOf) (classBy k) group h .reply)) }))
       (λ w. rw (e, w) (record { table = refl; answer = refl; reply = refl })))
 
   -- the same table and the same answer

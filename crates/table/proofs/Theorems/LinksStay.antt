@@ -10,6 +10,7 @@ use lib.Seq.{set-getD}
 use Rattle.octets.proofs.Branch.{by-bool, pick-both}
 use Rattle.octets.specs.Frame.{longest}
 use Rattle.octets.specs.Links.{unlinked}
+use Rattle.octets.specs.Sort.{classBy}
 use Rattle.peer.proofs.Links.{ask-links, hear-links, parted-links}
 use Rattle.peer.specs.Association.{partedOf}
 use Rattle.peer.specs.Record.{freeOf, freshOf}
@@ -65,7 +66,7 @@ module _ (s : Settings) (t : List Record) (w : Well s t) where
   read Admitted = refl
   read (From a group k h) =
       let at = seekOf t (addressesOf t) a in
-      turned at (findOf (addressesOf t) 0) a _ _ refl (hear-links s (peerOf t at a) k group h .1)
+      turned at (findOf (addressesOf t) 0) a _ _ refl (hear-links s (peerOf t at a) (classBy k) group h .1)
 
   pub received-links : (xs : List ℕ) (n : ℕ) → Stay (receivedOf s t xs n)
   unfolding receivedOf refusedOf settledOf

@@ -5,12 +5,13 @@ use mathlib.Core.Path.{_≡_, refl}
 use mathlib.Core.Bool.{true}
 use Rattle.octets.specs.Address.{validOf, groupOf}
 use Rattle.octets.specs.Field.{octets}
-use Rattle.octets.specs.Class.{classIn, classOf, isPublicAction}
+use Rattle.octets.specs.Class.{classIn, classOf, isPublicAction, listedClass}
 use Rattle.octets.specs.Element.{brokenOf, ends, isResponse, walk}
 use Rattle.octets.specs.Heard.{authenticationOf, responseOf, heardOf}
 use Rattle.octets.specs.Shape.{leastManagement, isBare, leastOf, shapeOf}
 use Rattle.octets.specs.Frame.{capabilityOf, aidField, headOf, bodyOf, bytesOf, writtenOf, lengthOf}
 use Rattle.octets.specs.Links.{noLinks}
+use Rattle.octets.specs.Sort.{isListed, sortOf}
 use Rattle.peer.specs.Settings.{networkFits, queryTimesFit, roleAnswers, roleAsks, roleAssociates, settingsFit, timeFits}
 use Rattle.peer.specs.Query.{queryIn}
 use Rattle.peer.specs.Record.{isJoined, associates, freshOf, isFree, changedOf, queriedOf, spokenAt}
@@ -41,7 +42,7 @@ use Rattle.table.specs.Case.{same, answerFields, recordFields, sameTable
 use Rattle.table.specs.Marked.{marked}
 
 pub marked-cases : allOf comesOut marked ≡ true
-unfolding validOf groupOf octets classIn classOf isPublicAction walk ends isResponse brokenOf authenticationOf responseOf heardOf leastManagement isBare leastOf shapeOf capabilityOf
+unfolding validOf groupOf octets sortOf isListed listedClass classIn classOf isPublicAction walk ends isResponse brokenOf authenticationOf responseOf heardOf leastManagement isBare leastOf shapeOf capabilityOf
     aidField headOf bodyOf bytesOf writtenOf lengthOf settingsFit queryTimesFit networkFits roleAnswers roleAsks roleAssociates timeFits isJoined associates freshOf isFree changedOf queryIn queriedOf stands askedFits awaitingFits
     sentFits holdFits recordFits highestState queryAllowed placeFits dsOf networkAddress sendOf authenticationTo disassociationTo requestTo responseTo turnOf endedOf
     begunOf repliedOf stillOf barredOf requestedOf authenticationAsked answeredMove authenticationAnswered authenticationHeard

@@ -12,6 +12,7 @@ use lib.Seq.{getD-set-other, set-getD}
 use Rattle.octets.proofs.Branch.{by-bool, pick-both}
 use Rattle.octets.specs.Frame.{longest}
 use Rattle.octets.specs.Links.{unlinked}
+use Rattle.octets.specs.Sort.{classBy}
 use Rattle.peer.proofs.ErrorsThatLookRight.{ask-kept, hear-kept}
 use Rattle.peer.proofs.Fits.{clash, wrong}
 use Rattle.peer.proofs.Links.{parted-links}
@@ -99,7 +100,7 @@ module _ (t : List Record) where
     heard Admitted = λ i z. refl
     heard (From peer group k h) =
         in-turn peer (seekOf t (addressesOf t) peer) (findOf (addressesOf t) 0) _ _ refl
-        (hear-kept s (peerOf t (seekOf t (addressesOf t) peer) peer) k group h)
+        (hear-kept s (peerOf t (seekOf t (addressesOf t) peer) peer) (classBy k) group h)
 
     frame-stays : (xs : List ℕ) (n : ℕ) → Stays t (receivedOf s t xs n)
     unfolding receivedOf refusedOf settledOf

@@ -22,6 +22,7 @@ use Rattle.octets.specs.Shape.{shapeOf}
 use Rattle.octets.specs.declared.heard.Heard.{Heard}
 use Rattle.octets.specs.declared.shape.Shape.{Shape}
 use Rattle.octets.specs.declared.shape.Shape.the-variants.{Misfit, Classless, Bare, Full}
+use Rattle.octets.proofs.Sorts.{sort-class}
 use Rattle.peer.proofs.AskSaid.{ask-said}
 use Rattle.peer.proofs.Classes.{same-classless}
 use Rattle.peer.proofs.Fits.{Fits, both, fits-of, or-left, wrong}
@@ -162,7 +163,7 @@ module _ (s : Settings) where
         (λ g.
         let n = or-left (eqb (field 6 10 xs) (s .own)) _ g in
         by-bool (brokenOf xs) (λ b. rw (u, g, b) tt) (λ b.
-        rw (u, g, b) (from-said xs o (same-classless on xs ∙ full-classed xs e) (groupOf (field 6 4 xs)) (field 6 10 xs) (rw (n .0)) (not-false _ (n .1))
+        rw (u, g, b, sort-class on xs) (from-said xs o (same-classless on xs ∙ full-classed xs e) (groupOf (field 6 4 xs)) (field 6 10 xs) (rw (n .0)) (not-false _ (n .1))
         (seekOf t (addressesOf t) (field 6 10 xs)) (findOf (addressesOf t) 0) refl))))
 
     -- ---- primitives

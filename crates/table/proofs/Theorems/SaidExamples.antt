@@ -12,7 +12,7 @@ use lib.ListN.{length, getD, replicate}
 use borrow.Author.Tests.{lt-ltb}
 use Rattle.octets.proofs.Branch.{by-bool}
 use Rattle.octets.specs.Address.{validOf, groupOf}
-use Rattle.octets.specs.Class.{classIn, classOf, isPublicAction}
+use Rattle.octets.specs.Class.{classIn, classOf, isPublicAction, listedClass}
 use Rattle.octets.specs.Element.{brokenOf, isResponse}
 use Rattle.octets.specs.Field.{octets}
 use Rattle.octets.specs.Frame.{aidField, bodyOf, bytesOf, capabilityOf, comebackElement, headOf, lengthOf, writtenOf}
@@ -22,6 +22,7 @@ use Rattle.octets.specs.declared.element.Comeback.the-variants.{Absent, Given}
 use Rattle.octets.specs.declared.heard.Heard.the-variants as heard
 use Rattle.octets.specs.declared.heard.Kind.the-variants.{Association, Authentication}
 use Rattle.octets.specs.Links.{noLinks, unlinked}
+use Rattle.octets.specs.Sort.{isListed, sortOf}
 use Rattle.peer.proofs.Queries.{site}
 use Rattle.peer.specs.Ask.{answerOf, askOf, awaitedOf, respondOf, startedOf}
 use Rattle.peer.specs.Association.{requestHeard}
@@ -85,7 +86,7 @@ accepted = step-said home two refl (event.Ask 7 0x0e 0) [] (replicate 37 0) (ome
 kept-out :
     ReadsTo home 0x06 (heard.Deauthentication 7)
     (0xc0 ∷ 0 ∷ 0 ∷ 0 ∷ 0x06 ∷ 0 ∷ 0 ∷ 0 ∷ 0 ∷ 0 ∷ 0x0a ∷ 0 ∷ 0 ∷ 0 ∷ 0 ∷ 0 ∷ 0x0a ∷ 0 ∷ 0 ∷ 0 ∷ 0 ∷ 0 ∷ 0 ∷ 0 ∷ 7 ∷ 0 ∷ [])
-unfolding validOf groupOf octets classIn classOf isPublicAction isResponse brokenOf heardOf isBare leastOf shapeOf headOf bodyOf bytesOf writtenOf lengthOf settingsFit queryTimesFit networkFits roleAnswers roleAsks roleAssociates timeFits isJoined
+unfolding validOf groupOf octets sortOf isListed listedClass classIn classOf isPublicAction isResponse brokenOf heardOf isBare leastOf shapeOf headOf bodyOf bytesOf writtenOf lengthOf settingsFit queryTimesFit networkFits roleAnswers roleAsks roleAssociates timeFits isJoined
     associates freshOf isFree changedOf queryIn stands askedFits holdFits recordFits highestState queryAllowed placeFits dsOf networkAddress sendOf deauthenticationTo turnOf repliedOf
     barredOf hearOf firstFrom allTails countOf aloneIn crowdOf sparseOf wellFormed settledOf refusedOf steppedOf seatedOf startsOf newcomerOf
     strangerOf forUs readFrom readFull readOf heardFrom receivedOf
@@ -100,7 +101,7 @@ put-off :
     ReadsTo site 0x04 (heard.Response Association 30 0 (Given 1000))
     (0x10 ∷ 0 ∷ 0 ∷ 0 ∷ 0x04 ∷ 0 ∷ 0 ∷ 0 ∷ 0 ∷ 0 ∷ 0x02 ∷ 0 ∷ 0 ∷ 0 ∷ 0 ∷ 0 ∷ 0x02 ∷ 0 ∷ 0 ∷ 0 ∷ 0 ∷ 0 ∷ 0 ∷ 0 ∷
     0x01 ∷ 0 ∷ 30 ∷ 0 ∷ 0 ∷ 0 ∷ 56 ∷ 5 ∷ 3 ∷ 0xe8 ∷ 0x03 ∷ 0 ∷ 0 ∷ [])
-unfolding validOf groupOf octets classIn classOf isPublicAction isResponse brokenOf heardOf leastManagement isBare leastOf shapeOf capabilityOf comebackElement aidField
+unfolding validOf groupOf octets sortOf isListed listedClass classIn classOf isPublicAction isResponse brokenOf heardOf leastManagement isBare leastOf shapeOf capabilityOf comebackElement aidField
     headOf bodyOf bytesOf writtenOf lengthOf settingsFit queryTimesFit networkFits roleAnswers roleAsks roleAssociates timeFits isFree holdFits recordFits highestState queryAllowed placeFits networkAddress sendOf laterTo
     turnOf isChallenged challengedOf queryingOf queriedOf runningOf requestHeard hearOf firstFrom allTails aloneIn sparseOf wellFormed settledOf refusedOf
     steppedOf seatedOf forUs readFrom readFull readOf heardFrom receivedOf

@@ -19,6 +19,7 @@ use Rattle.octets.specs.Heard.{heardOf}
 use Rattle.octets.specs.Shape.{shapeOf}
 use Rattle.octets.specs.declared.shape.Shape.{Shape}
 use Rattle.octets.specs.declared.shape.Shape.the-variants.{Misfit, Classless, Bare, Full}
+use Rattle.octets.proofs.Sorts.{sort-class}
 use Rattle.peer.proofs.Fits.{both, clash, or-left, wrong}
 use Rattle.peer.proofs.AskKeeps.{ask-keeps}
 use Rattle.peer.proofs.Classes.{classed}
@@ -92,7 +93,7 @@ module _ (s : Settings) (t : List Record) (w : Well s t) where
       let a = field 6 10 xs in
       let at = seekOf t (addressesOf t) a in
       let l = seek-leads s t w a (rw (n .0)) (not-false _ (n .1)) at refl in
-      rw (e, g, b) (in-turn s t w true (λ r b. wrong (sym b)) a at (findOf (addressesOf t) 0) _ _ l refl
+      rw (e, g, b, sort-class (roleAssociates (s .role)) xs) (in-turn s t w true (λ r b. wrong (sym b)) a at (findOf (addressesOf t) 0) _ _ l refl
       (hear-keeps s true (peerOf t at a) (leads-fits s t w a at l) (w .settings)
       (classIn (roleAssociates (s .role)) xs) (groupOf (field 6 4 xs)) (heardOf xs) (classed (roleAssociates (s .role)) xs) (λ r. heard-fits xs (o r)))
       (hear-links s (peerOf t at a) (classIn (roleAssociates (s .role)) xs) (groupOf (field 6 4 xs)) (heardOf xs) .1)))))

@@ -46,7 +46,7 @@ fn heard_at(s: Settings, table: &[u8], linked: bool, r: Reading) -> Change
         Reading::From {
             peer,
             group,
-            class,
+            sort,
             heard,
         } => {
             let at = seek(table, linked, peer);
@@ -57,7 +57,7 @@ fn heard_at(s: Settings, table: &[u8], linked: bool, r: Reading) -> Change
                 peer_at(table, at, peer),
                 peer,
                 group,
-                class,
+                sort,
                 heard,
             )
         }

@@ -4,6 +4,7 @@ use octets::field::octet_at;
 use octets::field::u16_at;
 use peer::settings::Settings;
 ghost use mathlib.Core.Path.{_≡_};
+ghost use lib.ListN.{length};
 ghost use Rattle.table.specs.Boundary.{editionIn, maximumIn, retryIn, settingsIn, settingsLength};
 
 // Whether settings may have a length: 12, 14 with edition and protection, 18 with the times of a query too, or 24 with the network's address.
@@ -42,11 +43,33 @@ fn maximum_in(s: &[u8]) -> u16
     if s.len() < 18 { 1000 } else { u16_at(s, 16) }
 }
 
+// All fields, as a program in C lends them. The compiler knows the length then, and looks for the end at no field.
+fn all_in(s: &[u8]) -> Settings
+    requires { ⌜ length (now s) ≡ 24 ⌝ }
+    ensures { λ r. ⌜ r ≡ settingsIn (now (s .entry)) ⌝ }
+{
+    Settings {
+        own: address_at(s, 1),
+        network: address_at(s, 18),
+        authentication: u16_at(s, 8),
+        association: u16_at(s, 10),
+        role: octet_at(s, 0),
+        rsna: octet_at(s, 7),
+        edition: octet_at(s, 12),
+        protection: octet_at(s, 13),
+        retry: u16_at(s, 14),
+        maximum: u16_at(s, 16),
+    }
+}
+
 // The settings in octets: role, own address, RSNA, two timeouts; edition, protection; a query's retry time and maximum; an ad hoc
 // network's address. Of another length: settings out of range, refused 2.
 pub fn settings_in(s: &[u8]) -> Settings
     ensures { λ r. ⌜ r ≡ settingsIn (now (s .entry)) ⌝ }
 {
+    if s.len() == 24 {
+        return all_in(s);
+    }
     if settings_length(s.len()) {} else {
         return Settings {
             own: 0,

@@ -141,6 +141,39 @@ pub(crate) fn row_standing(s: Settings, r: Row) -> Standing
     exchange_standing(s.role, r.exchange, r.state, r.left)
 }
 
+// Whether a row is well formed, as if it had no links, and has neither an exchange nor a query: most rows. The tests that other rows fail
+// come first.
+pub(crate) fn plain(s: Settings, r: Row) -> bool
+    requires { ⌜ settingsFit s ≡ true ⌝ }
+    ensures { λ x. ⌜ (x ≡ true → ((rowNumbered r && recordFits s (linkedOf (recordOf r) unlinked)) ≡ true) × (associates (recordOf r) ≡ false)) ⌝ }
+{
+    if r.exchange != 0 {
+        return false;
+    }
+    if r.left != 0 {
+        return false;
+    }
+    if r.state < Record::STATE_1 {
+        return false;
+    }
+    if highest(s.role) < r.state {
+        return false;
+    }
+    if r.query != 0 {
+        return false;
+    }
+    if r.remaining != 0 {
+        return false;
+    }
+    if r.address == s.own {
+        return false;
+    }
+    if valid(r.address) {} else {
+        return false;
+    }
+    hold_fits(s.role, r.hold)
+}
+
 // The links of a row: none, or at an access point.
 fn links_standing(s: Settings, table: &[u8], at: usize) -> bool
     requires { ⌜ at + 48 ≤ length (now table) ⌝ }

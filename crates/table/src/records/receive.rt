@@ -36,7 +36,7 @@ fn heard_at(s: Settings, t: [Record; 32], addresses: &[u64], r: Reading) -> Chan
         Reading::From {
             peer,
             group,
-            class,
+            sort,
             heard,
         } => {
             let at = seek(t, addresses, peer);
@@ -47,7 +47,7 @@ fn heard_at(s: Settings, t: [Record; 32], addresses: &[u64], r: Reading) -> Chan
                 peer_at(t, at, peer),
                 peer,
                 group,
-                class,
+                sort,
                 heard,
             )
         }

@@ -1,13 +1,13 @@
 // A received frame, read once: the steps that are settled before a record is looked up.
 use octets::address::group;
 use octets::address::valid;
-use octets::class::FrameClass;
-use octets::class::class_in;
 use octets::element::broken;
 use octets::field::address_at;
 use octets::heard::Heard;
 use octets::shape::Shape;
 use octets::shape::measure;
+use octets::sort::Sort;
+use octets::sort::sorted;
 ghost use mathlib.Core.Path.{_≡_};
 ghost use Rattle.table.specs.Read.{forUs, readBare, readFrom, readFull, readOf};
 
@@ -22,7 +22,7 @@ pub enum Reading {
     From {
         peer: u64,
         group: bool,
-        class: FrameClass,
+        sort: Sort,
         heard: Heard,
     },
 }
@@ -57,7 +57,7 @@ fn read_from(infrastructure: bool, peer: u64, to: u64, frame: &[u8]) -> Reading
     Reading::From {
         peer,
         group: group(to),
-        class: class_in(infrastructure, frame),
+        sort: sorted(infrastructure, frame),
         heard: octets::heard::read(frame),
     }
 }

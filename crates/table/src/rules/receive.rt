@@ -2,14 +2,15 @@
 use crate::rules::seat::Change;
 use crate::rules::seat::Found;
 use crate::rules::seat::turn_in;
-use octets::class::FrameClass;
 use octets::heard::Heard;
+use octets::sort::Sort;
 use peer::authentication::full;
 use peer::hear::hear;
 use peer::record::Record;
 use peer::settings::Settings;
 ghost use mathlib.Core.Path.{_≡_};
 ghost use mathlib.Core.List.{List};
+ghost use Rattle.octets.specs.Sort.{classBy};
 ghost use Rattle.peer.specs.Authentication.{fullOf};
 ghost use Rattle.peer.specs.Hear.{hearOf};
 ghost use Rattle.peer.specs.Turn.{towardsOf};
@@ -24,15 +25,15 @@ pub(crate) fn heard_from(
     p: Record,
     from: u64,
     group: bool,
-    class: FrameClass,
+    sort: Sort,
     h: Heard,
 ) -> Change
-    ensures { λ r. ⌜ ((t : List Peer) → metOf t r ≡ turnIn t at free (towardsOf from (hearOf s p class group h)) (towardsOf from (fullOf s p))) ⌝ }
+    ensures { λ r. ⌜ ((t : List Peer) → metOf t r ≡ turnIn t at free (towardsOf from (hearOf s p (classBy sort) group h)) (towardsOf from (fullOf s p))) ⌝ }
 {
     turn_in(
         free,
         at,
-        hear(s, p, class, group, h).towards(from),
+        hear(s, p, sort, group, h).towards(from),
         full(s, p).towards(from),
     )
 }

@@ -7,8 +7,11 @@ use mathlib.Core.Path.{_≡_}
 use Rattle.peer.proofs.hear.hear.Statement.{statement}
 use Rattle.peer.proofs.hear.hear.Tie as tie
 
-passes-requires : tie.Need-passes-requires
-passes-requires c κs = search needs
+passes-by-requires : tie.Need-passes-by-requires
+passes-by-requires c κs = search needs
+
+class-by-requires : tie.Need-class-by-requires
+class-by-requires c κs = search needs
 
 barred-requires : tie.Need-barred-requires
 barred-requires c κs = search needs
@@ -18,7 +21,7 @@ replied-requires c κs = search needs
 
 returns : tie.Need-returns
 unfolding hearOf
-returns c = search (tests, ← c .replied .ensures, ← c .before .barred .ensures, c .before .before .if1 .left, ← c .before .before .before .passes .ensures)
+returns c = rw (← c .before .before .before .before .passes-by .ensures, c .before .before .before .if1 .left, ← c .before .before .class-by .ensures, ← c .before .barred .ensures) (c .replied .ensures)
 
 is-other-requires : tie.Need-is-other-requires
 is-other-requires c κs = search needs
@@ -28,7 +31,7 @@ still-requires c κs = search needs
 
 returns-2 : tie.Need-returns-2
 unfolding hearOf groupHeard
-returns-2 c = rw (← c .before .before .before .before .passes .ensures, c .before .before .before .if1 .taken, c .before .before .is-other .ensures (c .before .if2 .taken)) (pick-both (λ z. c .still .result ≡ z) (c .before .before .before .before .before .args .group) (c .still .ensures) (c .still .ensures))
+returns-2 c = rw (← c .before .before .before .before .passes-by .ensures, c .before .before .before .if1 .taken, c .before .before .is-other .ensures (c .before .if2 .taken)) (pick-both (λ z. c .still .result ≡ z) (c .before .before .before .before .before .args .group) (c .still .ensures) (c .still .ensures))
 
 group-heard-requires : tie.Need-group-heard-requires
 group-heard-requires c κs = search needs
@@ -38,17 +41,18 @@ act-requires c κs = search needs
 
 returns-3 : tie.Need-returns-3
 unfolding hearOf
-returns-3 c = search (tests, ← c .group-heard .ensures, c .before .if3 .taken, c .before .before .before .before .if1 .taken, ← c .before .before .before .before .before .passes .ensures)
+returns-3 c = search (tests, ← c .group-heard .ensures, c .before .if3 .taken, c .before .before .before .before .if1 .taken, ← c .before .before .before .before .before .passes-by .ensures)
 
 returns-4 : tie.Need-returns-4
 unfolding hearOf
-returns-4 c = search (tests, ← c .act .ensures, c .before .if3 .left, c .before .before .before .before .if1 .taken, ← c .before .before .before .before .before .passes .ensures)
+returns-4 c = search (tests, ← c .act .ensures, c .before .if3 .left, c .before .before .before .before .if1 .taken, ← c .before .before .before .before .before .passes-by .ensures)
 
 pub hear-spec : {M : Type 1} → statement M
 hear-spec =
     tie.close
     (tie.spec
-    passes-requires
+    passes-by-requires
+    class-by-requires
     barred-requires
     replied-requires
     returns

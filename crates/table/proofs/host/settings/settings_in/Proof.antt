@@ -5,12 +5,18 @@ use borrow.Author.Needs.{needs}
 use Rattle.table.proofs.host.settings.settings_in.Statement.{statement}
 use Rattle.table.proofs.host.settings.settings_in.Tie as tie
 
+all-in-requires : tie.Need-all-in-requires
+all-in-requires c κs = c .if1 .taken
+
+returns : tie.Need-returns
+returns c = c .all-in .ensures
+
 settings-length-requires : tie.Need-settings-length-requires
 settings-length-requires c κs = search needs
 
-returns : tie.Need-returns
+returns-2 : tie.Need-returns-2
 unfolding settingsIn
-returns c = rw (← c .before .settings-length .ensures, c .if1 .left)
+returns-2 c = rw (← c .before .settings-length .ensures, c .if2 .left)
 
 address-at-requires : tie.Need-address-at-requires
 address-at-requires c κs = search needs
@@ -42,16 +48,18 @@ retry-in-requires c κs = search needs
 maximum-in-requires : tie.Need-maximum-in-requires
 maximum-in-requires c κs = search needs
 
-returns-2 : tie.Need-returns-2
+returns-3 : tie.Need-returns-3
 unfolding settingsIn
-returns-2 c = rw (← c .before .before .before .before .before .before .before .before .before .before .before .settings-length .ensures, c .before .before .before .before .before .before .before .before .before .before .if1 .taken, ← c .before .before .before .before .before .before .before .before .before .address-at .ensures, ← c .before .before .before .before .before .before .before .before .address-at2 .ensures, ← c .before .before .before .before .before .before .before .u16-at .ensures, ← c .before .before .before .before .before .before .u16-at2 .ensures, ← c .before .before .before .before .before .octet-at .ensures, ← c .before .before .before .before .octet-at2 .ensures, ← c .before .before .before .edition-in .ensures, ← c .before .before .octet-at3 .ensures, ← c .before .retry-in .ensures, ← c .maximum-in .ensures)
+returns-3 c = rw (← c .before .before .before .before .before .before .before .before .before .before .before .settings-length .ensures, c .before .before .before .before .before .before .before .before .before .before .if2 .taken, ← c .before .before .before .before .before .before .before .before .before .address-at .ensures, ← c .before .before .before .before .before .before .before .before .address-at2 .ensures, ← c .before .before .before .before .before .before .before .u16-at .ensures, ← c .before .before .before .before .before .before .u16-at2 .ensures, ← c .before .before .before .before .before .octet-at .ensures, ← c .before .before .before .before .octet-at2 .ensures, ← c .before .before .before .edition-in .ensures, ← c .before .before .octet-at3 .ensures, ← c .before .retry-in .ensures, ← c .maximum-in .ensures)
 
 pub settings-in-spec : {M : Type 1} → statement M
 settings-in-spec =
     tie.close
     (tie.spec
-    settings-length-requires
+    all-in-requires
     returns
+    settings-length-requires
+    returns-2
     address-at-requires
     address-at-requires-2
     u16-at-requires
@@ -62,4 +70,4 @@ settings-in-spec =
     octet-at-requires-3
     retry-in-requires
     maximum-in-requires
-    returns-2)
+    returns-3)

@@ -16,8 +16,8 @@ returns c = search (tests, c .if1 .taken, ← c .before .broken .ensures)
 group-requires : tie.Need-group-requires
 group-requires c κs = tt
 
-class-in-requires : tie.Need-class-in-requires
-class-in-requires c κs = tt
+sorted-requires : tie.Need-sorted-requires
+sorted-requires c κs = tt
 
 read-requires : tie.Need-read-requires
 read-requires c κs = tt
@@ -25,7 +25,7 @@ read-requires c κs = tt
 returns-2 : tie.Need-returns-2
 unfolding readFrom
 returns-2 c =
-    search (tests, ← c .read .ensures, ← c .before .class-in .ensures, ← c .before .before .group .ensures, c .before .before .before .if1 .left, ← c .before .before .before .before .broken .ensures)
+    search (tests, ← c .read .ensures, ← c .before .sorted .ensures, ← c .before .before .group .ensures, c .before .before .before .if1 .left, ← c .before .before .before .before .broken .ensures)
 
 pub read-from-spec : {M : Type 1} → statement M
-read-from-spec = tie.close (tie.spec broken-requires returns group-requires class-in-requires read-requires returns-2)
+read-from-spec = tie.close (tie.spec broken-requires returns group-requires sorted-requires read-requires returns-2)

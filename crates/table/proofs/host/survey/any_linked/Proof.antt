@@ -1,0 +1,74 @@
+-- `table::host::survey::any_linked` meets its contract: nothing is found in the places passed.
+-- Assumes nothing.
+use Prim.Native.Nat.{_%_, _+_, _-_, _≤_}
+use Rattle.table.proofs.Octets.LinkSurveys.{four-places, none-behind, one-found}
+use Rattle.table.specs.Rows.{linkedIn, recordsOf}
+use borrow.Author.Needs.{needs}
+use denote.Ref.{now}
+use lib.ListN.{drop, length}
+use mathlib.Core.Bool.{false}
+use mathlib.Core.Path.{_∙_, _≡_, sym}
+use native.Mathlib.Omega.{arith}
+use Rattle.table.proofs.host.survey.any_linked.Statement.{statement}
+use Rattle.table.proofs.host.survey.any_linked.Tie as tie
+
+abbrev Inv-loop : tie.InvT-loop
+Inv-loop table n i₀ i = (length table ≡ 1536) × (i ≤ 32) × (i % 4 ≡ 0) × (linkedIn (drop i (recordsOf table)) ≡ false)
+
+abbrev μ-loop : tie.MeasureT-loop
+μ-loop table n i₀ i = i
+
+returns : tie.Need-returns Inv-loop μ-loop
+returns c = absurd (c .if1 .taken (c .before .before .pre .0))
+
+loop-holds : tie.Need-loop-holds Inv-loop μ-loop
+loop-holds c =
+    let start = c .before .before in
+    let n = start .args .n in
+    (start .pre .0, start .pre .1, start .pre .2, none-behind (now (start .args .table)) (start .pre .0) (32 - n) n (omega (arith, start .pre .1)) (start .pre .3))
+
+sub-i : tie.Need-sub-i Inv-loop μ-loop
+sub-i c = search needs
+
+mul-linkless-four : tie.Need-mul-linkless-four Inv-loop μ-loop
+mul-linkless-four c = omega (arith, c .before .loop .inv .1)
+
+linkless-four-requires : tie.Need-linkless-four-requires Inv-loop μ-loop
+linkless-four-requires c κs = tt
+
+loop-less : tie.Need-loop-less Inv-loop μ-loop
+loop-less c = search needs
+
+loop-again : tie.Need-loop-again Inv-loop μ-loop
+loop-again c =
+    let at = c .before .before .before in
+    let i = at .loop .i in
+    let back : i - 4 + 4 ≡ i = omega (arith, c .before .before .loop-test .taken) in
+    (at .loop .inv .0, omega (arith, at .loop .inv .1), omega (arith, at .loop .inv .2, c .before .before .loop-test .taken), four-places _ (at .loop .inv .0) (i - 4) (omega (arith, at .loop .inv .1, c .before .before .loop-test .taken)) ∙ rw (← c .before .linkless-four .ensures, c .if2 .taken, back) (at .loop .inv .3))
+
+returns-2 : tie.Need-returns-2 Inv-loop μ-loop
+returns-2 c =
+    let at = c .before .before .before in
+    one-found _ (at .loop .inv .0) (at .loop .i - 4) (omega (arith, at .loop .inv .1, c .before .before .loop-test .taken)) (sym (c .before .linkless-four .ensures) ∙ c .if2 .left)
+
+returns-3 : tie.Need-returns-3 Inv-loop μ-loop
+returns-3 c =
+    let at = c .before in
+    let first : at .loop .i ≡ 0 = omega (arith, at .loop .inv .2, c .loop-test .left) in
+    sym (rw first at (at .loop .inv .3))
+
+pub any-linked-spec : {M : Type 1} → statement M
+any-linked-spec =
+    tie.close
+    (tie.spec
+    Inv-loop
+    μ-loop
+    returns
+    loop-holds
+    sub-i
+    mul-linkless-four
+    linkless-four-requires
+    loop-less
+    loop-again
+    returns-2
+    returns-3)
