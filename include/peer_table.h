@@ -46,7 +46,8 @@
  *     until it is answered, an authenticated one until it is deauthenticated, one with links until they are taken away. A place is freed by the
  *     next clock step.
  *   - Count time: the library has no clock. peer_pass is told how many TU passed; the timeouts of what was sent, a station's holds and an
- *     AP's queries run by it alone.
+ *     AP's queries run by it alone. Steps add up: a whole sleep may be told in one call, or in several with the same sum. The table is the
+ *     same, and the reports are together the same but for a query's retries: of several in one call one is told, none where it times out there.
  *   - Ask again: nothing is repeated. After a timeout or a rejection the host decides whether and when it asks once more. In an ad hoc network
  *     a request that is heard takes the place of one that we sent: no answer to ours and no timeout is told then. Answer it; each end that
  *     answers with success counts the other as authenticated.

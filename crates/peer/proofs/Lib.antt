@@ -22,3 +22,6 @@ pub mod Queries
 pub mod QueryRuns
 pub mod Inquiries
 pub mod Retries
+pub mod QuerySteps
+pub mod RecordSteps
+pub mod Sleep

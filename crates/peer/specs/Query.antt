@@ -92,3 +92,13 @@ abbrev pub queryReport : Settings → Query → ℕ → ℕ
 queryReport s None d = 0
 queryReport s (Running left due) d = runningReport s left d
 queryReport s TimedOut d = 0
+
+-- 02, K6: "sums that reach no retry": whether so many TU, in one step or in several, reach a retry. A query ends at its maximum: what is a multiple
+-- of the retry time there or behind it is no retry.
+unfoldable pub runningRetried : Settings → ℕ → ℕ → Bool
+runningRetried s left d = reaches s left (pick (leb left d) (left - 1) d)
+
+abbrev pub queryRetried : Settings → ℕ → Query → Bool
+queryRetried s d None = false
+queryRetried s d (Running left due) = runningRetried s left d
+queryRetried s d TimedOut = false

@@ -11,3 +11,4 @@ pub mod BoundaryLaws
 pub mod CallsInRow
 pub mod OrderOctets
 pub mod OrderOctetsExamples
+pub mod SleepOctets

@@ -24,3 +24,8 @@ pub mod PlacesKept
 pub mod SaidBack
 pub mod SaidExamples
 pub mod LinkExamples
+pub mod Sorted
+pub mod SleepRows
+pub mod Sleep
+pub mod MarkedComeback
+pub mod SleepExamples

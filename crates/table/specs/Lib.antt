@@ -21,3 +21,4 @@ pub mod Written
 pub mod Order
 pub mod Meant
 pub mod Calls
+pub mod Sleep

@@ -1,6 +1,6 @@
 -- What the loops of a clock step keep, in the form of what is still to come, and that a turn keeps it.
 -- Assumes nothing.
-use Prim.Native.Nat.{ℕ, _+_, _*_, _-_, _≤_, _<_}
+use Prim.Native.Nat.{ℕ, _+_, _*_, _≤_, _<_}
 use mathlib.Core.Path.{_≡_, refl, ap, sym, _∙_}
 use mathlib.Core.Bool.{Bool, true, false}
 use mathlib.Core.List.{List, [], _∷_, _++_, map}
@@ -13,9 +13,9 @@ use Rattle.octets.specs.Pick.{pick}
 use Rattle.octets.specs.Field.{octets}
 use Rattle.octets.specs.Report.{reportBytes}
 use Rattle.octets.proofs.Stores.{sets-append}
-use Rattle.peer.specs.Query.{queryIn}
-use Rattle.peer.specs.Record.{changedOf, freeOf, queriedOf}
-use Rattle.peer.specs.Tick.{freedOf, queriedTimed, reportedOf, tickOf, timedOf}
+use Rattle.peer.proofs.Sleep.{tick-free}
+use Rattle.peer.specs.Record.{freeOf}
+use Rattle.peer.specs.Tick.{tickOf}
 use Rattle.peer.specs.declared.settings.Settings.{Settings}
 use Rattle.peer.specs.declared.record.Record.{Record}
 use Rattle.table.specs.Pass.{reportFor, reportsOf, afterOf}
@@ -36,13 +36,6 @@ report-short p k a = short (eqb k 0)
 -- the report of the place i
 abbrev pub reported : Settings → ℕ → List Record → ℕ → List ℕ
 reported s d t i = reportFor i (tickOf s (getD t i freeOf) d .report) (getD t i freeOf .address)
-
--- A free place stays free, and nothing is told of it.
-pub tick-free : (s : Settings) (d : ℕ) → (afterOf s d freeOf ≡ freeOf) × (tickOf s freeOf d .report ≡ 0)
-unfolding tickOf timedOf freedOf changedOf queryIn queriedTimed queriedOf reportedOf
-tick-free s d =
-    let z : 0 - d ≡ 0 = omega arith in
-    (rw z, refl)
 
 -- What was told where i places are passed. d: the step; o₀, t: buffer and table before the loop; o: the buffer now, with n octets written.
 pub record Told (s : Settings) (d : ℕ) (o₀ : List ℕ) (t : List Record) (o : List ℕ) (n i : ℕ) : Type 0 where

@@ -3,28 +3,24 @@
 -- Assumes nothing.
 use Prim.Native.Nat.{ℕ, _+_, _*_}
 use mathlib.Core.Path.{_≡_, refl, sym, _∙_}
-use mathlib.Core.Bool.{true, false, not}
+use mathlib.Core.Bool.{true, not}
 use mathlib.Core.List.{List, [], _∷_}
 use native.Mathlib.Omega.{arith}
 use lib.Dec.{ltb, leb, eqb}
 use lib.ListN.{length, length-append}
 use borrow.Author.Tests.{ltb-true, ltb-false, le-leb, lt-leb, not-true, not-false}
 use Rattle.octets.specs.Pick.{pick}
-use Rattle.octets.specs.declared.heard.Kind.{Kind}
-use Rattle.octets.specs.declared.heard.Kind.the-variants as kind
-use Rattle.octets.proofs.Branch.{and-left, and-right, by-bool, pick-both}
-use Rattle.peer.proofs.Fits.{clash, fits-of}
-use Rattle.peer.specs.Query.{queryIn, queryNumber, queryReport, reaches, runningNumber, runningReport}
-use Rattle.peer.specs.Settings.{ap, settingsFit}
-use Rattle.peer.specs.Record.{changedOf, kindOf, underWay, isFree}
-use Rattle.peer.specs.Fit.{exchangeFits, placeFits, queryFits, queryStands, runningFits}
+use Rattle.octets.proofs.Branch.{and-left, and-right, by-bool}
+use Rattle.peer.proofs.RecordSteps.{place-query, sound}
+use Rattle.peer.specs.Query.{queryReport, reaches, runningReport}
+use Rattle.peer.specs.Settings.{settingsFit}
+use Rattle.peer.specs.Record.{changedOf, underWay}
+use Rattle.peer.specs.Fit.{placeFits}
 use Rattle.peer.specs.Tick.{reportedOf, timedOf, tickOf}
 use Rattle.peer.specs.declared.query.Query.{Query}
 use Rattle.peer.specs.declared.query.Query.the-variants as query
 use Rattle.peer.specs.declared.settings.Settings.{Settings}
 use Rattle.peer.specs.declared.record.Record.{Record}
-use Rattle.peer.specs.declared.record.Exchange.{Exchange}
-use Rattle.peer.specs.declared.record.Exchange.the-variants.{None, Asked, Awaiting, Sent}
 use Rattle.table.specs.Places.{allTails, allOf, countOf}
 use Rattle.table.specs.Fit.{wellFormed}
 use Rattle.table.specs.Refusals.{firstOf}
@@ -35,57 +31,6 @@ use Rattle.table.specs.Written.{comesDue, reports, timesOut}
 use Rattle.table.specs.declared.rules.event.Event.the-variants as event
 use Rattle.table.proofs.Passes.Ticks.{report-length}
 use Rattle.table.proofs.Theorems.RefusedExactly.{refused-exactly, refusal-first}
-
-some-kind : (k : Kind) → eqb (kindOf k) 0 ≡ false
-some-kind kind.Authentication = refl
-some-kind kind.Association = refl
-some-kind kind.Reassociation = refl
-
--- time is left only of an exchange
-runs : (e : Exchange) (role state left : ℕ) → exchangeFits e role state left ≡ true → eqb left 0 ≡ false → eqb (underWay e) 0 ≡ false
-runs None role state left h z = cc
-runs (Asked k) role state left h z = some-kind k
-runs (Awaiting k) role state left h z = some-kind k
-runs (Sent k) role state left h z = some-kind k
-
-free-still : (p : Record) → isFree p ≡ true → eqb (p .left) 0 ≡ true
-unfolding isFree
-free-still p h = and-left (eqb (p .left) 0) _ (and-right (eqb (p .state) 0) _ (and-right (eqb (p .address) 0) _ h))
-
-place-runs : (s : Settings) (p : Record) → placeFits s p ≡ true → eqb (p .left) 0 ≡ false → eqb (underWay (p .exchange)) 0 ≡ false
-unfolding placeFits
-place-runs s p h z = by-bool (isFree p)
-    (λ e. cc (free-still p e))
-    (λ e. runs (p .exchange) (s .role) (p .state) (p .left) (fits-of s p (rw e at h) .suits) z)
-
--- a query stands in State 4 alone, so no step takes it from its place before it is looked at
-four-only : (s : Settings) (state : ℕ) (q : Query) → queryFits s state q ≡ true → queryIn state q ≡ q
-unfolding queryIn runningFits queryStands
-four-only s state query.None h = pick-both (λ (q : Query). q ≡ query.None) (eqb state 4) refl refl
-four-only s state (query.Running left due) h =
-    rw (and-right (eqb (s .role) ap) _ (and-right (leb left (s .maximum)) _ (and-right (not (eqb left 0)) _ h)))
-four-only s state query.TimedOut h = rw (and-right (eqb (s .role) ap) _ h)
-
-none-only : (state : ℕ) (q : Query) → eqb (queryNumber q) 0 ≡ true → queryIn state q ≡ q
-unfolding queryIn runningNumber
-none-only state query.None h = pick-both (λ (q : Query). q ≡ query.None) (eqb state 4) refl refl
-none-only state (query.Running left true) h = clash h refl
-none-only state (query.Running left false) h = clash h refl
-none-only state query.TimedOut h = clash h refl
-
-free-query : (p : Record) → isFree p ≡ true → eqb (queryNumber (p .query)) 0 ≡ true
-unfolding isFree
-free-query p h =
-    and-left (eqb (queryNumber (p .query)) 0) _
-    (and-right (eqb (p .identifier) 0) _
-    (and-right (eqb (p .hold) 0) _
-    (and-right (eqb (p .left) 0) _ (and-right (eqb (p .state) 0) _ (and-right (eqb (p .address) 0) _ h)))))
-
-place-query : (s : Settings) (p : Record) → placeFits s p ≡ true → queryIn (p .state) (p .query) ≡ p .query
-unfolding placeFits
-place-query s p h = by-bool (isFree p)
-    (λ e. none-only (p .state) (p .query) (free-query p e))
-    (λ e. four-only s (p .state) (p .query) (fits-of s p (rw e at h) .queries))
 
 -- the octets of a query's report
 query-count : (s : Settings) (d n a : ℕ) (q : Query) → length (reportFor n (queryReport s q d) a) ≡ 8 * pick (comesDue s d q) 1 0
@@ -104,13 +49,13 @@ unfolding tickOf timedOf reportedOf changedOf
 report-kind s d p h = by-bool (eqb (p .left) 0) (λ a. rw (a, place-query s p h)) (λ a.
     by-bool (ltb d (p .left))
     (λ b. rw (a, b, lt-leb (p .left) d (ltb-true d (p .left) b), place-query s p h))
-    (λ b. rw (a, b, le-leb (p .left) d (ltb-false d (p .left) b), place-runs s p h a)))
+    (λ b. rw (a, b, le-leb (p .left) d (ltb-false d (p .left) b), sound s p h .busy a .0)))
 
 place-count : (s : Settings) (d n : ℕ) (p : Record) → placeFits s p ≡ true → length (reportFor n (tickOf s p d .report) (p .address)) ≡ 8 * pick (reports s d p) 1 0
 place-count s d n p h = by-bool (timesOut d p)
     (λ e.
     let some = not-true (eqb (p .left) 0) (and-left (not (eqb (p .left) 0)) _ e) in
-    rw (report-kind s d p h, e) (report-length n (underWay (p .exchange)) (p .address) (place-runs s p h some)))
+    rw (report-kind s d p h, e) (report-length n (underWay (p .exchange)) (p .address) (sound s p h .busy some .0)))
     (λ e. rw (report-kind s d p h, e) (query-count s d n (p .address) (p .query)))
 
 reports-count : (s : Settings) (d n : ℕ) (t : List Record) → allOf (placeFits s) t ≡ true → length (reportsOf s d n t) ≡ 8 * countOf (reports s d) t

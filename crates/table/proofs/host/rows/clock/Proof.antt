@@ -3,9 +3,10 @@
 use Prim.Native.Nat.{_-_, _≤_}
 use Rattle.octets.proofs.RowTrip.{Octets}
 use Rattle.peer.proofs.Links.{tick-links}
+use Rattle.peer.proofs.Sleep.{tick-free}
 use Rattle.table.proofs.Octets.RowLaws.{blank-free, length-records}
 use Rattle.table.proofs.Octets.RowStores.{Rewritten, record-unread, rewritten-all, rewritten-free, rewritten-head, rewritten-length, rewritten-none}
-use Rattle.table.proofs.Passes.Ticks.{Told, report-short, tick-free, told-bytes, told-count, told-free, told-none, told-step}
+use Rattle.table.proofs.Passes.Ticks.{Told, report-short, told-bytes, told-count, told-free, told-none, told-step}
 use Rattle.table.specs.Pass.{afterOf, clockedOf, reportFor}
 use Rattle.table.specs.Rows.{recordsOf}
 use borrow.Author.Needs.{needs}
