@@ -116,6 +116,15 @@ def wait_out(walk, peer):
     ask_to_join(walk, peer)
 
 
+def run_out(walk, peer):
+    """Nobody answers the join under way: its time runs out, or all but one TU of it."""
+    joining = walk.joining()
+    if joining:
+        walk.pass_time(max(joining.left - walk.dice.of((0, 0, 0, 1)), 1))
+    else:
+        let_time_pass(walk, peer)
+
+
 def go_on(walk, peer):
     """The next thing that would bring the join of this peer on."""
     dice = walk.dice
@@ -135,7 +144,7 @@ def go_on(walk, peer):
         dice.of((send_data, send_data, ask_to_join, ask_authentication))(walk, peer)
 
 
-MOVES = ((52, go_on), (5, send_data), (3, repeat), (4, ask_to_join), (3, ask_authentication),
+MOVES = ((49, go_on), (3, run_out), (5, send_data), (3, repeat), (4, ask_to_join), (3, ask_authentication),
          (2, hear_response), (2, hear_authentication), (3, fall_by_frame),
          (2, fall_by_primitive), (1, protect), (5, let_time_pass),
          (6, odd_frame), (2, odd_response), (2, odd_action), (5, odd_primitive), (2, hear_query),

@@ -1,5 +1,6 @@
 pub mod Passes
 pub mod Theorems
 pub mod Order
+pub mod Joining
 pub mod Walks
 pub mod Octets

@@ -9,6 +9,8 @@ pub mod LinkSurveys
 pub mod HostLaws
 pub mod BoundaryLaws
 pub mod CallsInRow
+pub mod JoinedCalls
+pub mod JoinedCallsExamples
 pub mod OrderOctets
 pub mod OrderOctetsExamples
 pub mod SleepOctets

@@ -22,3 +22,6 @@ pub mod Order
 pub mod Meant
 pub mod Calls
 pub mod Sleep
+pub mod Joined
+pub mod JoinedOctets
+pub mod JoinedCases

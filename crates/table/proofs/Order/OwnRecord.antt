@@ -93,7 +93,7 @@ wf-distinct s t w = and-left (distinctOf (addressesOf t)) _ (and-right (allOf (p
 abbrev pub Alone : Turn → Type 0
 Alone t = t .sole ≡ false
 
-no-kind : (k : Kind) → eqb 0 (kindOf k) ≡ false
+pub no-kind : (k : Kind) → eqb 0 (kindOf k) ≡ false
 no-kind kind.Authentication = refl
 no-kind kind.Association = refl
 no-kind kind.Reassociation = refl

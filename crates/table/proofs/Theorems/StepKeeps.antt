@@ -117,7 +117,7 @@ module _ (s : Settings) (t : List Record) (w : Well s t) where
       let z : countOf associates t ≤ 0 = ltb-false 0 (countOf associates t) (rw r at b) in
       omega arith
 
-  none-of : (k : ℕ) (b : Bool) (rest : List (ℕ × Bool)) → eqb k 0 ≡ false → eqb (firstOf ((k, b) ∷ rest)) 0 ≡ true → (b ≡ false) × (eqb (firstOf rest) 0 ≡ true)
+  pub none-of : (k : ℕ) (b : Bool) (rest : List (ℕ × Bool)) → eqb k 0 ≡ false → eqb (firstOf ((k, b) ∷ rest)) 0 ≡ true → (b ≡ false) × (eqb (firstOf rest) 0 ≡ true)
   unfolding firstOf
   none-of k true rest z h = wrong (sym z ∙ h)
   none-of k false rest z h = (refl, h)

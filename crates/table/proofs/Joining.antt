@@ -1,0 +1,13 @@
+pub mod Sinces
+pub mod Lines
+pub mod HeardTurns
+pub mod AskedTurns
+pub mod TimedTurns
+pub mod Records
+pub mod Steps
+pub mod FrameSteps
+pub mod AskSteps
+pub mod ClockSteps
+pub mod Admits
+pub mod ClassThree
+pub mod JoinedExamples
