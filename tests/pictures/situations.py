@@ -149,7 +149,8 @@ def clock_cause(role, step, before, after):
         why = "exchange under way" if before.exchange else "no exchange"
     if after.state:
         return why
-    why += ", no hold left" if before.hold <= step else ", a hold left"
+    if role == bench.STATION or before.hold:  # elsewhere there is none to speak of
+        why += ", no hold left" if before.hold <= step else ", a hold left"
     return why + (", links" if before.links else ", no links" if role == bench.ACCESS_POINT else "")
 
 

@@ -14,7 +14,10 @@ import sys
 import textwrap
 
 from tests.cases import difference
-from tools.scenario import answers, read, show
+from tools.scenario import source
+
+from . import expected
+from .playing import inputs, lines_of, plain_lines, told
 
 ROOT = pathlib.Path(__file__).resolve().parents[2]
 EXAMPLES = ROOT / "examples"
@@ -57,20 +60,6 @@ REFUSED = [
 TOLD = re.compile(r"^(prim|frame|clock) .*\n    [0-9]+  ", re.MULTILINE)
 
 
-def laid_out(text, name):
-    """The reader, the lines and the bench inputs of a scenario, one for each settings line."""
-    reader, lines = read.read(text, name)
-    return reader, lines, read.bench_inputs(lines)
-
-
-def told(reader, lines, inputs, command, with_table=False):
-    return show.transcript(reader, lines, answers.to_all(command, inputs), with_table)
-
-
-def plain_lines(inputs, command):
-    return "".join(answers.run(command, octets) for octets, _ in inputs)
-
-
 def command_prints(*words):
     done = subprocess.run([str(ROOT / "scenario"), *words], capture_output=True)
     return done.stdout if done.returncode == 0 else done.stderr
@@ -79,21 +68,21 @@ def command_prints(*words):
 def check(file, bench, independent):
     """The faults of one example."""
     stored = file.with_suffix(".out").read_text()
-    reader, lines, inputs = laid_out(file.read_text(), file.name)
-    plain = plain_lines(inputs, bench)
-    tables = [told(reader, lines, inputs, command, True)
-              for command in (bench + ["trace"], independent + ["-v"])]
+    lines = lines_of(file.read_text(), file.name)
+    plain = plain_lines(lines, bench)
+    tables = [told(lines, command, True) for command in (bench + ["trace"], independent + ["-v"])]
     compared = {
         "the command": (stored, command_prints(str(file)).decode()),
-        "bench": (stored, told(reader, lines, inputs, bench + ["trace"])),
-        "independent program": (stored, told(reader, lines, inputs, independent + ["-v"])),
-        "plain lines of both": (plain, plain_lines(inputs, independent)),
+        "bench": (stored, told(lines, bench + ["trace"])),
+        "independent program": (stored, told(lines, independent + ["-v"])),
+        "plain lines of both": (plain, plain_lines(lines, independent)),
         "--lines": (plain, command_prints("--lines", str(file)).decode()),
         "tables of both": tuple(tables),
         "--table": (tables[0], command_prints("--table", str(file)).decode()),
+        "--check": ("", command_prints("--check", str(file)).decode()),
     }
-    if len(inputs) == 1:
-        compared["--octets"] = inputs[0][0].hex(), command_prints("--octets", str(file)).hex()
+    if len(inputs(lines)) == 1:
+        compared["--octets"] = inputs(lines)[0][0].hex(), command_prints("--octets", str(file)).hex()
     found = {what: difference(*pair) for what, pair in compared.items()}
     return [f"{what}: {fault}" for what, fault in found.items() if fault]
 
@@ -102,9 +91,24 @@ def refused_values(bench):
     """What a field can hold and the rules refuse is played, and gets its number."""
     faults = []
     for settings, line, number, said in REFUSED:
-        text = told(*laid_out(f"{settings}\n{line}\n", "refused"), bench + ["trace"])
+        text = told(lines_of(f"{settings}\n{line}\n"), bench + ["trace"])
         if f"    1  refused {number}: {said}; nothing changes\n" not in text:
             faults.append(text)
+    return faults
+
+
+def unmet_is_told():
+    """What is not met ends the command with status 1: told in the transcript and on standard error, or alone."""
+    text = "ap own=02:00:00:00:00:01\nframe ack\nexpect discarded # a remark\nexpect admitted\n"
+    wrong = "standard input:3: expect discarded: not met: admitted\n"
+    told_so = ("expect discarded # a remark\n    NOT MET: admitted\nexpect admitted\n"
+               "2 expectations, 1 not met: line 3\n")
+    pairs = [([], told_so, wrong), (["--check"], wrong, "")]
+    faults = []
+    for words, ends, errors in pairs:
+        done = subprocess.run([str(ROOT / "scenario"), *words, "-"], input=text, capture_output=True, text=True)
+        if done.returncode != 1 or not done.stdout.endswith(ends) or done.stderr != errors or words and done.stdout != ends:
+            faults.append(str(done))
     return faults
 
 
@@ -119,8 +123,9 @@ def readme(bench):
     if shown[0] not in (EXAMPLES / "nine_steps.out").read_text():
         faults.append("what it shows is not told of the nine steps")
     try:
-        told(*laid_out(own[0], "its scenario"), bench + ["trace"])
-    except read.ScenarioFault as fault:
+        if not told(lines_of(own[0], "its scenario"), bench + ["trace"]).endswith("expectations, all met\n"):
+            faults.append("its scenario does not do what it expects")
+    except source.ScenarioFault as fault:
         faults.append(str(fault))
     return faults
 
@@ -147,6 +152,8 @@ def main():
     results = {file.name: check(file, bench, independent) for file in files}
     results["nine steps"] = nine_steps()
     results["refused values"] = refused_values(bench)
+    results["expectations"] = expected.faults(bench + ["trace"])
+    results["unmet"] = unmet_is_told()
     results["README.md"] = readme(bench)
     for name, faults in results.items():
         for fault in faults:

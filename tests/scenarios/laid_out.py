@@ -1,7 +1,9 @@
 """Tests of what the words of a scenario lay out: frames, settings and primitives, against their octets."""
 
 from tools import bench_input as bench
-from tools.scenario import primitives, read
+from tools.scenario import primitives
+
+from .playing import inputs, lines_of
 
 OWN, PEER, OTHER = "02:00:00:00:00:01", "02:00:00:00:00:0a", "06:01:02:03:04:05"
 # The primitives by number, each with the name of its code.
@@ -14,8 +16,7 @@ PRIMITIVES = (("authenticate", "code"), ("respond-authenticate", "status"),
 
 def event(line, first=f"ap own={OWN}"):
     """The one event of a line."""
-    _, lines = read.read(f"{first}\n{line}\n", "test")
-    return lines[1].events[0]
+    return lines_of(f"{first}\n{line}\n")[1].events[0]
 
 
 def frames_as_laid_out():
@@ -57,7 +58,7 @@ def frames_as_laid_out():
     if event(f"frame data from={PEER}", ad_hoc).frame != b"\x08" + bytes(3) + bench.address(OWN) \
             + bench.address(PEER) + bench.address(OTHER) + bytes(2):
         faults.append("data in an ad hoc network")
-    if read.read(ad_hoc, "test")[1][0].settings.record != bench.settings(3, OWN, network=OTHER):
+    if lines_of(ad_hoc)[0].settings.record != bench.settings(3, OWN, network=OTHER):
         faults.append("settings of an ad hoc network")
     return faults + [f"frame {words}" for words, octets in pairs
                      if event(f"frame {words} from={PEER}").frame != octets]
@@ -78,15 +79,14 @@ def settings_as_laid_out():
              ("network=broadcast edition=2", b"\0d\0d\0\2\0\xc9\0\xe8\3" + bench.BROADCAST)]
     faults = []
     for words, rest in pairs:
-        lines = read.read(f"ap own={OWN} {words}\n", "test")[1]
-        if read.bench_inputs(lines) != [(bench.record(bench.SETTINGS, first + rest), 0)]:
+        if inputs(lines_of(f"ap own={OWN} {words}\n")) != [(bench.record(bench.SETTINGS, first + rest), 0)]:
             faults.append(words)
     second = f"station own={PEER} edition=2\nclock 1\nframe deauth from=p\n"
-    _, lines = read.read(f"ap own={OWN}\nname p = {OTHER}\nclock 2\n{second}", "test")
+    lines = lines_of(f"ap own={OWN}\nname p = {OTHER}\nclock 2\n{second}")
     heard = bench.frame(bench.management(bench.DEAUTHENTICATION, PEER, OTHER, b"\3\0", third=OTHER))
     wanted = [(bench.settings(1, OWN) + bench.clock(2), 1),
               (bench.settings(2, PEER, edition=2) + bench.clock(1) + heard, 2)]
-    return faults + ([] if read.bench_inputs(lines) == wanted else ["two settings lines"])
+    return faults + ([] if inputs(lines) == wanted else ["two settings lines"])
 
 
 def links_as_laid_out():
@@ -97,7 +97,7 @@ def links_as_laid_out():
              ("r-1..6", r), ("own", [OWN]), ("none", [])]
     faults = []
     for words, wanted in pairs:
-        made = read.read(f"{first}\nlinks {PEER} {words}\n", "test")[1][2].events
+        made = lines_of(f"{first}\nlinks {PEER} {words}\n")[2].events
         laid = bytes((len(wanted),)) + b"".join(bench.address(link) for link in wanted)
         if [made_.record for made_ in made] != [bench.record(4, bench.address(PEER) + laid)]:
             faults.append(words)

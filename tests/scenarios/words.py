@@ -12,10 +12,12 @@ import tempfile
 
 from tests.comparison import generate
 from tools import bench_input as bench
-from tools.scenario import answers, frame_words, frames, manual, primitives, read
+from tools.scenario import answers, codes, expect, frame_words, frames, manual, primitives, read
 
+from . import tried
 from .laid_out import (OTHER, OWN, PEER, event, frames_as_laid_out, links_as_laid_out,
                        primitives_by_word_and_number, settings_as_laid_out)
+from .playing import lines_of, told
 from .wrong import all_wrong
 
 ROOT = pathlib.Path(__file__).resolve().parents[2]
@@ -108,27 +110,23 @@ def odd_answers_are_told():
     """A bench program that prints what it never should, or can't be run, is a fault with a line."""
     line, place = "1 0 - 0 0 0 - 0\n", "  place 0 02000000000a 1 0 0 0\n"
     query, links = "  query 1 1 2 1000\n", "  links 1 020000000101\n"
-    wanted = [("stop\n", "the bench program printed 'stop', which is no line of its trace"),
-              (place + line, f"the bench program printed '{place[:-1]}', which is no line of its trace"),
-              (line + query, f"the bench program printed '{query[:-1]}', which is no line of its trace"),
-              (line + place + query, f"the bench program printed '{query[:-1]}', which is no line of its trace"),
-              (line + links, f"the bench program printed '{links[:-1]}', which is no line of its trace"),
-              (line + place + links, f"the bench program printed '{links[:-1]}', which is no line of its trace"),
+    odd = "the bench program printed '{}', which is no line of its trace"
+    wanted = [("stop\n", odd.format("stop")), (place + line, odd.format(place[:-1])),
+              (line + query, odd.format(query[:-1])), (line + place + query, odd.format(query[:-1])),
+              (line + links, odd.format(links[:-1])), (line + place + links, odd.format(links[:-1])),
               ("", "the bench program gave 0 answers to 1 events"),
-              (line + line, "the bench program gave 2 answers to 1 events")]
+              (line + line, odd.format(line[:-1]))]
+    played = lines_of(f"ap own={OWN}\nclock 1\n")
+    programs = [(["sh", "-c", 'cat >/dev/null; printf %s "$0"', printed], said) for printed, said in wanted]
+    programs += [(["/no/such/program"], "/no/such/program can't be run: No such file or directory"),
+                 (["sh", "-c", "echo broken >&2; exit 3"], "the bench program did not run: broken")]
     faults = []
-    for printed, said in wanted:
+    for program, said in programs:
         try:
-            answers.read(printed, 1)
-            faults.append(f"taken: {printed}")
+            told(played, program)
+            faults.append(f"taken: {program}")
         except answers.BenchFault as fault:
             faults += [] if str(fault) == said else [str(fault)]
-    try:
-        answers.run(["/no/such/program"], b"")
-        faults.append("ran a program that is not there")
-    except answers.BenchFault as fault:
-        said = "/no/such/program can't be run: No such file or directory"
-        faults += [] if str(fault) == said else [str(fault)]
     return faults
 
 
@@ -162,11 +160,14 @@ def twice_settled_has_no_octets():
 
 def command_line_faults():
     """Wrong uses of the command get one line that says how it is used."""
-    usage = "scenario [--table | --lines | --octets] FILE, or scenario --help"
+    usage = ("scenario [--table | --lines | --octets | --check | --chart OUT.svg] FILE, "
+             "or scenario --help [WORD]")
     wanted = [([], f"no files given, one is wanted: {usage}"),
               (["a", "b"], f"2 files given, one is wanted: {usage}"),
               (["--tables", "a"], f"unknown option '--tables': {usage}"),
               (["--table", "--lines", "a"], f"--table and --lines do not go together: {usage}"),
+              (["--chart"], f"--chart needs a value behind it: {usage}"),
+              (["--table=1", "a"], f"unknown option '--table': {usage}"),
               (["no-such-file"], "no-such-file: No such file or directory"),
               (["/"], "/: Is a directory"),
               ([sys.executable], f"{sys.executable}: not a text in UTF-8, so no scenario")]
@@ -179,11 +180,14 @@ def command_line_faults():
 
 
 def help_is_whole():
-    """Each word, field, primitive and setting stands in the help, and --help prints it."""
+    """Each word, field, primitive, setting and number stands in the help, and --help prints it."""
     done = subprocess.run([str(ROOT / "scenario"), "--help"], capture_output=True, text=True)
-    words = list(frame_words.BY_WORD) + list(frame_words.FIELDS) + list(primitives.BY_WORD)
+    words = list(frame_words.BY_WORD) + list(frame_words.FIELDS) + list(primitives.BY_WORD) + list(expect.FORMS)
     missing = [word for word in words if f"  {word}" not in done.stdout]
     missing += [name for name in read.SETTINGS if f"{name}=" not in done.stdout]
+    for numbers in (codes.STATUS, codes.REASON, codes.ALL_REFUSALS):
+        missing += [about for number, about in numbers.items() if f"  {number:<4}{about}" not in done.stdout]
+    missing += [name for number, (name, _) in codes.NOTICES.items() if f"  {number:<4}{name}" not in done.stdout]
     return missing + ([] if done.stdout == manual.text() else ["--help prints something else"])
 
 
@@ -191,14 +195,15 @@ def main():
     tests = (words_cover_classes, frames_round_trip, generated_frames_round_trip,
              frames_as_laid_out, settings_as_laid_out, links_as_laid_out, help_is_whole,
              primitives_by_word_and_number, odd_answers_are_told, faults_are_told,
-             twice_settled_has_no_octets, command_line_faults)
+             twice_settled_has_no_octets, command_line_faults, *tried.TESTS)
     failed = 0
     for test in tests:
         faults = test()
         failed += bool(faults)
         for fault in faults:
             print(f"{test.__name__}: {fault}")
-    print(f"{len(tests) - failed} tests passed, {failed} failed; {len(all_wrong())} wrong scenarios")
+    print(f"{len(tests) - failed} tests passed, {failed} failed; {len(all_wrong())} wrong scenarios, "
+          f"{tried.COUNT} other ones")
     sys.exit(1 if failed else 0)
 
 

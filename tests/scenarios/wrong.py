@@ -1,14 +1,15 @@
 """Scenarios at fault, each with the line at fault and what the tool has to say of it."""
 
 START = ["ap own=02:00:00:00:00:01", "name p = 02:00:00:00:00:0a", "name s-1..3 = 02:00:00:00:01:01"]
+RULE = "a name has a letter first, then letters, digits, '-' and '_'"
 
 # The faulty line is the fourth one, behind START.
 LINES = [
     ("fram data from=p", "'fram' is no word to begin a line: did you mean 'frame'?"),
-    ("\x1b[2J", "'?[2J' is no word to begin a line: "
-     "one of name, ap, station, ad-hoc, settings, frame, prim, links, clock"),
+    ("\x1b[2J", "'\\x1b[2J' is no word to begin a line: "
+     "one of name, ap, station, ad-hoc, settings, frame, prim, links, clock, expect"),
     ("reboot", "'reboot' is no word to begin a line: "
-     "one of name, ap, station, ad-hoc, settings, frame, prim, links, clock"),
+     "one of name, ap, station, ad-hoc, settings, frame, prim, links, clock, expect"),
     ("ap", "ap needs own=ADDRESS, our own address"),
     ("frame", "frame needs a word for its kind, as auth-request, or raw and octets"),
     ("frame auth-requst from=p", "'auth-requst' is no frame: did you mean 'auth-request'?"),
@@ -39,7 +40,7 @@ LINES = [
     ("frame assoc-response from=p comeback=4294967296",
      "comeback: 4294967296 does not fit: 0 to 4294967295"),
     ("frame assoc-response from=p elements=380", "elements: '380' is not octets: "
-     "two hexadecimal digits each, as 38 05, or 00*9 for nine of them"),
+     "two hexadecimal digits each, as 38 05, 38:05, 0x38 or 3805, or 00*9 for nine of them"),
     ("frame data from=p version=4", "version: 4 does not fit: 0 to 3"),
     ("frame data from=p to-ds=2", "to-ds: 2 does not fit: 0 to 1"),
     ("frame data from=p flags=1",
@@ -49,17 +50,17 @@ LINES = [
     ("frame data from=p body=00*4096",
      "the frame has 4120 octets: at most 4096 can be given"),
     ("frame data from=q",
-     "from: no address has the name 'q': 'name q = ..' gives one"),
+     "from: no address has the name 'q': 'name q = ADDRESS' gives one"),
     ("frame data from=broadcas",
      "from: no address has the name 'broadcas': did you mean 'broadcast'?"),
-    ("frame data from=02:00:00:00:00", "from: '02:00:00:00:00' is neither an address, "
-     "as 02:00:00:00:00:0a, nor a name, as scanner, nor a range of names, as scanner-1..30"),
-    ("frame data from=s-1..4", "from: no address has the name 's-4': did you mean 's-3'?"),
+    ("frame data from=02:00:00:00:00", "from: '02:00:00:00:00' is no address: six octets, "
+     "as 02:00:00:00:00:0a, 02-00-00-00-00-0a or 0200.0000.000a"),
+    ("frame data from=s-1..4", "from: no address has the name 's-4': 'name s-4 = ADDRESS' gives one"),
     ("frame data from=s-3..1", "from: 's-3..1' is no range: "
      "the second number is the last one, at most 256 in all"),
     ("frame data from=s-1..2 to=s-2..3", "from and to are both ranges: one range in a line"),
-    ("frame raw 0g", "raw: '0g' is not octets: two hexadecimal digits each, as 38 05, "
-     "or 00*9 for nine of them"),
+    ("frame raw 0g", "raw: '0g' is not octets: two hexadecimal digits each, as 38 05, 38:05, "
+     "0x38 or 3805, or 00*9 for nine of them"),
     ("frame raw 00*4097", "raw, times: 4097 does not fit: 0 to 4096"),
     ("frame raw 00*4000 11*97", "raw: more than the 4096 octets that a frame can have"),
     ("prim 2", "a prim line is: prim NUMBER|WORD ADDRESS, and the code by its name"),
@@ -75,7 +76,7 @@ LINES = [
     ("prim querry p", "'querry' is no primitive: did you mean 'query'?"),
     ("frame sa-query-request id=1", "sa-query-request needs from=ADDRESS"),
     ("frame sa-query-response from=p id=65536", "id: 65536 does not fit: 0 to 65535"),
-    ("frame sa-query from=p", "'sa-query' is no frame: did you mean 'sa-query-request'?"),
+    ("frame sa-query from=p", "'sa-query' is no frame: did you mean 'sa-query-request' or 'sa-query-response'?"),
     ("frame sa-query-request from=p category=8", "'category' is no field of sa-query-request: one of "
      "from, to, id, body, version, flags, to-ds, from-ds, duration, length, third, sequence"),
     ("frame action from=p id=1", "'id' is no field of action: one of "
@@ -84,14 +85,18 @@ LINES = [
     ("prim 2 p status=70000", "status: 70000 does not fit: 0 to 65535"),
     ("prim 2 p colour=1", "'colour' is no field of primitive respond-authenticate: one of status, code"),
     ("prim 2 p 0", "'0' is no field: name=value, without blanks around '='"),
-    ("clock", "a clock line is: clock TU, as clock 100"),
-    ("clock 1 2", "a clock line is: clock TU, as clock 100"),
-    ("clock 65536", "clock: 65536 does not fit: 0 to 65535"),
-    ("clock " + "9" * 5000, "clock: a number of 5000 digits does not fit: 0 to 65535"),
-    ("clock 1.5", "clock: '1.5' is no number: decimal as 17, or hexadecimal as 0x11"),
+    ("clock", "a clock line is: clock TIME, as clock 100 for 100 TU, clock 2s or clock 500ms"),
+    ("clock 1 2", "a clock line is: clock TIME, as clock 100 for 100 TU, clock 2s or clock 500ms"),
+    ("clock 4294967296", "clock: 4294967296 does not fit: at most 4294967295 TU, some 50 days"),
+    ("clock 1222h", "clock: 1222h does not fit: at most 4294967295 TU, some 50 days"),
+    ("clock 1us", "clock: 1us is less than one TU, which is 1,024 us"),
+    ("clock 0x100000000", "clock: 0x100000000 does not fit: 0 to 4294967295"),
+    ("clock " + "9" * 5000, "clock: a time of 5000 signs does not fit: at most 4294967295 TU"),
+    ("clock 1.5", "clock: '1.5' is no time: whole TU as 100, or with a unit as 2s, 500ms, 1.5min, 1h"),
     ("name q", "a name line is: name NAME = ADDRESS"),
     ("name q = 02:00:00:00:00:0g",
-     "'02:00:00:00:00:0g' is no address: six octets, as 02:00:00:00:00:0a"),
+     "'02:00:00:00:00:0g' is no address: six octets, "
+     "as 02:00:00:00:00:0a, 02-00-00-00-00-0a or 0200.0000.000a"),
     ("name p = 02:00:00:00:00:0b",
      "'p' is the name of 02:00:00:00:00:0a already: choose another name"),
     ("name q = 02:00:00:00:00:0a",
@@ -101,14 +106,12 @@ LINES = [
     ("links", "a links line is: links DEVICE ADDRESS .., or links DEVICE none"),
     ("links p", "a links line is: links DEVICE ADDRESS .., or links DEVICE none"),
     ("links s-1..2 p", "device: 's-1..2' is 2 addresses: one is wanted here"),
-    ("links p q", "link: no address has the name 'q': 'name q = ..' gives one"),
+    ("links p q", "link: no address has the name 'q': 'name q = ADDRESS' gives one"),
     ("links p none s-1", "none stands alone: links DEVICE none"),
-    ("links p s-1, s-2", "link: 's-1,' is neither an address, as 02:00:00:00:00:0a, nor a name, "
-     "as scanner, nor a range of names, as scanner-1..30"),
+    ("links p s-1, s-2", "link: 's-1,' is no name, as scanner, and no range of names, as scanner-1..30: " + RULE),
     ("links p" + 86 * " s-1..3", "258 links: at most 255 can be given"),
     ("link p s-1", "'link' is no word to begin a line: did you mean 'links'?"),
-    ("name 1q = 02:00:00:00:00:0b", "name: '1q' is neither an address, as 02:00:00:00:00:0a, "
-     "nor a name, as scanner, nor a range of names, as scanner-1..30"),
+    ("name 1q = 02:00:00:00:00:0b", f"name: '1q' can't be a name: {RULE}; a range of them is scanner-1..30"),
     ("name t-1..2 = ff:ff:ff:ff:ff:ff",
      "ff:ff:ff:ff:ff:ff has the name 'broadcast' already: one name for each address"),
     ("name t-1..300 = 02:00:00:00:03:00", "name: 't-1..300' is no range: "
@@ -118,7 +121,7 @@ LINES = [
 # Whole scenarios, with the number of the line at fault.
 WHOLE = [
     ("", 1, "no settings: the first line is ap, station, ad-hoc or settings"),
-    ("# a comment\n\n", 1, "no settings: the first line is ap, station, ad-hoc or settings"),
+    ("# a comment\n\n", 2, "no settings: the first line is ap, station, ad-hoc or settings"),
     ("clock 1\n", 1, "'clock' comes before the settings: the first line is ap, station, ad-hoc or settings"),
     ("frame data from=own\n", 1,
      "'frame' comes before the settings: the first line is ap, station, ad-hoc or settings"),
@@ -137,7 +140,7 @@ WHOLE = [
     ("ad-hoc own=02:00:00:00:00:01 net=06:00:00:00:00:ad\n", 1,
      "'net' is no field of ad-hoc: did you mean 'network'?"),
     ("ad-hoc own=02:00:00:00:00:01 network=yard\n", 1,
-     "network: no address has the name 'yard': 'name yard = ..' gives one"),
+     "network: no address has the name 'yard': 'name yard = ADDRESS' gives one"),
     ("name n-1..2 = 06:00:00:00:00:01\nad-hoc own=02:00:00:00:00:01 network=n-1..2\n", 2,
      "network: 'n-1..2' is 2 addresses: one is wanted here"),
     ("ap own=02:00:00:00:00:01 rsna=256\n", 1, "rsna: 256 does not fit: 0 to 255"),

@@ -1,6 +1,7 @@
 """Message charts: who says what to whom, drawn from a scene's steps and answers."""
 
 import collections
+import re
 
 from .labels import TEXT_AT, mark
 from .scenes import ACK, COMEBACK_0, COMEBACK_5, JOIN, NO_COMEBACK, PARTS
@@ -15,7 +16,7 @@ Lines = collections.namedtuple("Lines", "own table peer attacker radios", defaul
 
 
 def parted(words, room):
-    """Words in as many lines as they need, parted at commas."""
+    """Words in as many lines as they need, parted at commas, and at blanks where a part is too long for a line."""
     lines = [""]
     for part in words.split(", "):
         longer = f"{lines[-1]}, {part}" if lines[-1] else part
@@ -24,7 +25,31 @@ def parted(words, room):
             longer = part
             lines.append("")
         lines[-1] = longer
+    return [short for line in lines for short in broken(line, room)]
+
+
+def broken(words, room):
+    """Words in lines that are no longer than the room, parted at blanks but not before a number; a word that is
+    longer is cut."""
+    if width_of(words) <= room:
+        return [words]
+    lines = [""]
+    for word in re.split(r" (?![0-9])", words):
+        longer = f"{lines[-1]} {word}".strip()
+        if lines[-1] and width_of(longer) > room:
+            lines.append("")
+            longer = word
+        lines[-1] = shortened(longer, room)
     return lines
+
+
+def shortened(words, room):
+    """As much of a text as there is room for."""
+    if width_of(words) <= room:
+        return words
+    while words and width_of(words + "..") > room:
+        words = words[:-1]
+    return words + ".."
 
 
 class Chart:
@@ -44,22 +69,31 @@ class Chart:
             self.canvas.rectangle(x - wide / 2, self.top - 46, wide, 30, "#eff2f5", "#8c959f")
             self.canvas.text(x, self.top - 26.5, name, anchor="middle", bold=True, over=True)
 
-    def message(self, start, end, words, kind=None, stroke=INK, dashed=False):
+    def message(self, start, end, words, kind=None, stroke=INK, dashed=False, stopped=False):
         """An arrow with its words above it: over all of it, or from its start to the first lifeline
-        that it crosses."""
+        that it crosses. One that is stopped, not let in, is crossed out before its head."""
         crossed = [x for x in self.lifelines if min(start, end) < x < max(start, end)]
         indent = TEXT_AT if kind else 0
         edge = min(crossed, key=lambda x: abs(x - start), default=end)
         lines = parted(words, abs(edge - start) - 16 - indent)
-        self.y += ROW + LINE * (len(lines) - 1)
+        lift = 6 if stopped else 0
+        self.y += ROW + lift + LINE * (len(lines) - 1)
         wide = max(width_of(line) for line in lines) + indent
         left = (start + edge) / 2 - wide / 2
         for at, line in enumerate(reversed(lines)):
-            self.canvas.text(left + indent, self.y - 7 - LINE * at, line,
+            self.canvas.text(left + indent, self.y - 7 - lift - LINE * at, line,
                              fill=stroke if stroke == RED else INK)
         if kind:
             mark(self.canvas, kind, left + 9, self.y - 11 - LINE * (len(lines) - 1))
         self.canvas.line([(start, self.y), (end, self.y)], stroke, dashed)
+        if stopped:
+            self.cross(end + (20 if start > end else -20))
+
+    def cross(self, x):
+        """A cross on the last arrow."""
+        for slope in (-1, 1):
+            self.canvas.put("line", x1=float(x - 6), y1=float(self.y - 6 * slope), x2=float(x + 6),
+                            y2=float(self.y + 6 * slope), stroke=RED, stroke_width=2.4)
 
     def badge(self, x, words, fill, kind=None):
         """Words on a lifeline."""
@@ -94,8 +128,8 @@ def event_message(chart, lines, step, heard):
         alone = (verdict, notice) == ("A", "0") and step.event[1] != ACK
         judged = ", admitted" if alone else ", discarded" if verdict == "D" else ""
         sender = lines.radios.get(step.event[1][10:16], lines.peer)
-        chart.message(sender, lines.table, frame_words(step.event[1]) + judged, None, BLUE,
-                      step.event[1] == ACK)
+        chart.message(sender, lines.table, frame_words(step.event[1]) + judged, None,
+                      RED if verdict == "D" else BLUE, step.event[1] == ACK, verdict == "D")
 
 
 def answer_messages(chart, lines, step):

@@ -56,5 +56,6 @@ def block(canvas, x, y, labels):
             canvas.text(x, y + 13, line.words, fill=MUTED)
         else:
             mark(canvas, line.mark, x + 9, y + 9)
+            canvas.words.append((f"the mark of {line.words}", x - 2, y + 2, x + 20, y + 16, not line.mark))
             canvas.text(x + TEXT_AT, y + 13, line.words, tag=line.tag)
         y += LINE

@@ -3,15 +3,15 @@
 import collections
 
 from .conditions import TAGS, condition
-from .labels import Label, block, block_size, mark
+from .labels import TEXT_AT, Label, block, block_size, mark
 from .move_list import ROLES, Fault
 from .notes import NOTES, belied
 from .queries import QUERY_HEIGHT, query_panel
-from .svg import AMBER, MUTED, PAPER, Canvas
+from .svg import AMBER, MUTED, PAPER, Canvas, width_of
 
-WIDTH, HEIGHT, AD_HOC_HEIGHT = 1280, 954, 512
+WIDTH, HEIGHT, AD_HOC_HEIGHT = 1330, 954, 512
 ACCESS_POINT, STATION, AD_HOC = ROLES.values()
-BOX_X, BOX_WIDTH, BOX_HEIGHT = 250, 376, 68
+BOX_X, BOX_WIDTH, BOX_HEIGHT = 264, 398, 68
 BOX_END = BOX_X + BOX_WIDTH
 TOPS = {0: 90, 1: 218, 2: 340, 3: 528, 4: 756}
 DOWN, UP = BOX_X + 12, BOX_END - 10
@@ -24,7 +24,9 @@ AD_HOC_NAMES = {**NAMES, 2: ("State 2", "authenticated")}
 TITLES = {ACCESS_POINT: "A peer's state at an access point",
           STATION: "An access point's state at a station",
           AD_HOC: "A peer's state in an ad hoc network"}
-NOTES_X, NOTES_Y = 900, 96
+NOTES_X, NOTES_Y = 968, 96
+# Between two marks of the legend.
+APART = 26
 
 # An arrow stands for the moves from any of some states to one; they must have the same causes.
 SHARED = (((0,), 1), ((1,), 2), ((1,), 0))
@@ -162,23 +164,22 @@ def notes(canvas, role, listed):
 
 
 def legend(canvas, role):
+    """What the marks mean, one behind the other with room between them."""
     y = canvas.height - 44
     canvas.line([(24, y - 32), (WIDTH - 24, y - 32)], "#d8dee4", head=False, thin=True)
     x = 34
-    for kind, words, wide in (("frame", "a frame heard from the peer", 212),
-                              ("primitive-7", "a primitive of our own side, with its number", 312),
-                              ("clock", "a clock step", 130)):
+    for kind, words in (("frame", "a frame heard from the peer"), ("clock", "a clock step"),
+                        ("primitive-7", "a primitive of our own side, with its number")):
         mark(canvas, kind, x + 9, y - 4)
-        canvas.text(x + 25, y, words)
-        x += wide
-    if role == STATION:
-        canvas.text(x, y, "hold", bold=True, fill=AMBER)
-        canvas.text(x + 40, y, "sets the hold: the comeback given, else 1,954 TU")
-    if role == ACCESS_POINT:
-        canvas.text(x, y, "DS", fill=MUTED)
-        canvas.text(x + 30, y, "the distribution system")
-        canvas.text(x + 196, y, "edition 2", bold=True, fill=AMBER)
-        canvas.text(x + 266, y, "by the settings, without protection")
+        canvas.text(x + TEXT_AT, y, words)
+        x += TEXT_AT + width_of(words) + APART
+    tags = {STATION: (("hold", "sets the hold: the comeback given, else 1,954 TU"),),
+            ACCESS_POINT: (("DS", "the distribution system"), ("edition 2", "without protection, by the settings"))}
+    for word, words in tags.get(role, ()):
+        canvas.text(x, y, word, bold=word != "DS", fill=MUTED if word == "DS" else AMBER)
+        x += width_of(word, bold=True) + 8
+        canvas.text(x, y, words)
+        x += width_of(words) + APART
     canvas.text(34, y + 26, "Every move there is: docs/pictures/moves.txt, held against the "
                 "program by tests/pictures/moves.py. What is not shown moves no state.", 11.5, fill=MUTED)
 

@@ -6,24 +6,19 @@ FONT = "system-ui, -apple-system, 'Segoe UI', Roboto, 'Helvetica Neue', Arial, s
 INK, MUTED, EDGE, PAPER = "#1f2328", "#59636e", "#c8d0d9", "#ffffff"
 BLUE, AMBER, RED, GREEN = "#0757b0", "#8a5300", "#b3202c", "#116329"
 SIZE = 12.5
-# Width of a character in units of the font's size: common sans fonts stay below these.
-NARROW, SLIM, WIDE = 0.29, 0.37, 0.88
-SLACK = 1.04
+# Widths of characters in units of the font's size: those of DejaVu Sans, which is about the widest that a
+# reader's system has for a sans font. What is not listed has the width of a small letter or of a capital.
+WIDTHS = {sign: wide for wide, signs in (
+    (0.295, "'ijlIJ"), (0.337, " ,./:;\\|"), (0.411, "f-()[]t!r"), (0.55, "szc?*_`\""), (0.592, "kvxy"),
+    (0.838, "w#+<=>^~"), (0.99, "mMW%@")) for sign in signs}
+SMALL, CAPITAL = 0.636, 0.787
+BOLD = 1.14
 
 
 def width_of(words, size=SIZE, bold=False):
     """An upper estimate of how wide the words are."""
-    total = 0.0
-    for c in words:
-        if c in "ijl.,:;'|!I":
-            total += NARROW
-        elif c in "frt()[]/- ":
-            total += SLIM
-        elif c in "mwMW":
-            total += WIDE
-        else:
-            total += 0.68 if c.isupper() else 0.555
-    return total * size * SLACK * (1.06 if bold else 1)
+    total = sum(WIDTHS.get(sign) or (CAPITAL if sign.isupper() else SMALL) for sign in words)
+    return total * size * (BOLD if bold else 1)
 
 
 def number(value):

@@ -1,83 +1,91 @@
-"""Runs the bench program with its trace and reads what it prints."""
+"""Reads what the bench program prints with its trace, piece by piece, into answers."""
 
 import collections
 import re
-import subprocess
 
 # The query is 0 none, 1 running, 2 running with its request due, 3 timed out; the links are addresses.
 Record = collections.namedtuple("Record", "place address state exchange left hold identifier query "
                                 "query_left links", defaults=(0, 0, 0, ()))
+# The table is by address; changed are the addresses whose records are not as they were, by place.
 Answer = collections.namedtuple(
-    "Answer", "number refusal verdict notice code written ds state octets current table")
+    "Answer", "number refusal verdict notice code written ds state octets current table changed")
 
-LINE = re.compile(r"(\d+) (\d+) ([AD-]) (\d+) (\d+) (\d+) ([JL-]) (\d+)")
-TRACE = re.compile(r"  (?:(octets|current) ([0-9a-f]+)|"
-                   r"place (\d+) ([0-9a-f]{12}) (\d+) (\d+) (\d+) (\d+)|"
-                   r"query (\d+) (\d+) (\d+) (\d+)|"
-                   r"links (\d+)((?: [0-9a-f]{12}){1,4}))")
-SECONDS = 120
+LINE = re.compile(r"\d+ [AD-] \d+ \d+ \d+ [JL-] \d+")
+NEXT = re.compile(r"\n(?=[^ ])")
+NEXT_PLACE = re.compile(r"\n(?=  place )")
+FIRST = re.compile(r"(?:  octets ([0-9a-f]+)(?:\n|$))?(?:  current ([0-9a-f]{12})(?:\n|$))?")
+PLACE = re.compile(r"  place (\d+) ([0-9a-f]{12}) (\d+) (\d+) (\d+) (\d+)")
+LINKS = re.compile(r"  links (\d+)((?: [0-9a-f]{12}){1,4})")
+QUERY = re.compile(r"  query (\d+) (\d+) (\d+) (\d+)")
 
 
 class BenchFault(Exception):
     """The bench program could not be run, or printed what it never should."""
 
 
-def run(command, octets):
-    """What the bench program prints on these octets."""
-    try:
-        done = subprocess.run(command, input=octets, capture_output=True, timeout=SECONDS)
-    except OSError as fault:
-        raise BenchFault(f"{command[0]} can't be run: {fault.strerror}") from None
-    except subprocess.TimeoutExpired:
-        raise BenchFault(f"{command[0]} had not ended after {SECONDS} s") from None
-    if done.returncode:
-        said = done.stderr.decode("utf-8", "replace").strip() or f"status {done.returncode}"
-        raise BenchFault(f"the bench program did not run: {said}")
-    return done.stdout.decode("ascii", "replace")
+def _odd(line):
+    return BenchFault(f"the bench program printed '{line}', which is no line of its trace")
 
 
-def _event(found):
-    number, refusal, verdict, notice, code, written, ds, state = found.groups()
-    return dict(number=int(number), refusal=int(refusal), verdict=verdict, notice=int(notice),
-                code=int(code), written=int(written), ds=ds, state=int(state), octets=b"",
-                current=None, table={})
+def record(text):
+    """A record of its lines: that of its place, then those of its links and of its query, if any."""
+    first, *rest = text.split("\n")
+    found = PLACE.fullmatch(first)
+    if not found:
+        raise _odd(first)
+    made = Record(int(found[1]), bytes.fromhex(found[2]), *(int(found[at]) for at in (3, 4, 5, 6)))
+    for line in rest:
+        links, query = LINKS.fullmatch(line), QUERY.fullmatch(line)
+        if not (links or query) or (links or query)[1] != found[1]:
+            raise _odd(line)
+        made = made._replace(links=tuple(map(bytes.fromhex, links[2].split()))) if links else made._replace(
+            identifier=int(query[2]), query=int(query[3]), query_left=int(query[4]))
+    return made
 
 
-def _add(event, found):
-    """One line of the trace. Those of links and of a query are about the place of the last one; says
-    whether it is."""
-    what, digits, place, address, query, linked, links = found.group(1, 2, 3, 4, 9, 13, 14)
-    table = event["table"]
-    if what:
-        event[what] = bytes.fromhex(digits)
-    elif address:
-        octets = bytes.fromhex(address)
-        numbers = (int(text) for text in found.group(5, 6, 7, 8))
-        table[octets] = Record(int(place), octets, *numbers)
-    else:
-        last = list(table.values())[-1] if table else None
-        if last is None or last.place != int(query or linked):
-            return False
-        new = dict(links=tuple(map(bytes.fromhex, links.split()))) if links else dict(
-            zip(("identifier", "query", "query_left"), map(int, found.group(10, 11, 12))))
-        table[last.address] = last._replace(**new)
-    return True
+class Trace:
+    """Takes the text as it comes; holds the table of the last event, so that only what changed is read."""
 
+    def __init__(self):
+        self.number, self._text = 0, ""
+        self._places, self._rows, self._table = "", {}, {}
+        # The fields of a line behind its number, read once: there are not many.
+        self._heads = {}
 
-def read(printed, events):
-    """One answer for each event; the input was laid out here, so anything else is a fault."""
-    found = []
-    for line in printed.splitlines():
-        event, trace = LINE.fullmatch(line), TRACE.fullmatch(line)
-        if event:
-            found.append(_event(event))
-        elif not (trace and found and _add(found[-1], trace)):
-            raise BenchFault(f"the bench program printed '{line}', which is no line of its trace")
-    if [event["number"] for event in found] != list(range(1, events + 1)):
-        raise BenchFault(f"the bench program gave {len(found)} answers to {events} events")
-    return [Answer(**event) for event in found]
+    def take(self, text, last=False):
+        """The answers that are whole by now; the last one is when the text has ended."""
+        blocks = NEXT.split(self._text + text)
+        self._text = blocks.pop()
+        if last and self._text:
+            blocks.append(self._text.rstrip("\n"))
+        return [self._answer(block) for block in blocks]
 
+    def _answer(self, block):
+        head, _, rest = block.partition("\n")
+        number, _, fields = head.partition(" ")
+        self.number += 1
+        if number != str(self.number) or not (fields in self._heads or LINE.fullmatch(fields)):
+            raise _odd(head)
+        if fields not in self._heads:
+            refusal, verdict, notice, code, written, ds, state = fields.split(" ")
+            self._heads[fields] = (int(refusal), verdict, int(notice), int(code), int(written), ds, int(state))
+        octets, current, changed = b"", None, ()
+        if rest[:3] in ("  o", "  c"):
+            first = FIRST.match(rest)
+            octets = bytes.fromhex(first[1] or "")
+            current = bytes.fromhex(first[2]) if first[2] else None
+            rest = rest[first.end():]
+        if rest != self._places:
+            changed = self._changed(rest)
+        return Answer(self.number, *self._heads[fields], octets, current, self._table, changed)
 
-def to_all(command, inputs):
-    """The answers to bench inputs, each octets and a number of events, one after the other."""
-    return [answer for octets, events in inputs for answer in read(run(command, octets), events)]
+    def _changed(self, places):
+        """Takes the lines of a table that is not the last one; gives the addresses whose records are new, other or gone."""
+        old, rows = self._rows, {}
+        for text in NEXT_PLACE.split(places) if places else ():
+            rows[text] = old.get(text) or record(text)
+        table = {row.address: row for row in rows.values()}
+        other = [row for text, row in rows.items() if text not in old]
+        gone = [row for row in self._table.values() if row.address not in table]
+        self._places, self._rows, self._table = places, rows, table
+        return tuple(row.address for row in sorted(other + gone))

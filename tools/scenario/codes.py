@@ -66,6 +66,15 @@ REFUSAL_7 = {
     11: "no SA Query request to this peer is due",
     12: "the device is not in State 1",
 }
+# All of them, as --help lists them.
+ALL_REFUSALS = {
+    1: "output buffer under 37 octets, 256 for a clock step: never so on the bench",
+    2: "settings out of range",
+    3: "what can't be meant: an argument or a frame that is not as it must be",
+    4: REFUSALS[4], 5: "a primitive that is not for this role", 6: REFUSALS[6],
+    7: "the primitive finds no matching exchange or state",
+    8: REFUSALS[8], 9: REFUSALS[9],
+}
 
 
 def coded(name, code):

@@ -1,94 +1,147 @@
 """The command line of scenario."""
 
 import os
-import pathlib
+import shlex
 import sys
+import tempfile
 
-from . import answers, manual, read, show
+from . import manual, source, stream
+from .answers import BenchFault
+from .show import Teller
+from .source import ScenarioFault, UsageFault
 
-USAGE = "scenario [--table | --lines | --octets] FILE, or scenario --help"
-OPTIONS = ("--table", "--lines", "--octets")
-BENCH = [str(pathlib.Path(__file__).resolve().parents[2] / "bench")]
-
-
-class UsageFault(Exception):
-    """The command line or the file is not as it should be."""
+USAGE = "scenario [--table | --lines | --octets | --check | --chart OUT.svg] FILE, or scenario --help [WORD]"
+OPTIONS = ("--table", "--lines", "--octets", "--check", "--chart")
+# Options with a value behind them.
+VALUED = ("--chart", "--bench")
 
 
 def arguments(words):
-    """The option, '' for none, and the file."""
-    option = ""
-    files = []
-    for word in words:
-        if word.startswith("--"):
-            if word not in OPTIONS:
-                raise UsageFault(f"unknown option '{word}': {USAGE}")
-            if option:
-                raise UsageFault(f"{option} and {word} do not go together: {USAGE}")
-            option = word
-        else:
+    """The options with their values, '' for none, and the files."""
+    options, files, words = {}, [], list(words)
+    while words:
+        word = words.pop(0)
+        if not word.startswith("--"):
             files.append(word)
-    if len(files) != 1:
+            continue
+        word, equals, value = word.partition("=")
+        if word not in OPTIONS + VALUED or equals and word not in VALUED:
+            raise UsageFault(f"unknown option '{word}': {USAGE}")
+        if word in VALUED and not equals:
+            if not words:
+                raise UsageFault(f"{word} needs a value behind it: {USAGE}")
+            value = words.pop(0)
+        clash = [other for other in options if other in OPTIONS and word in OPTIONS]
+        if clash:
+            raise UsageFault(f"{clash[0]} and {word} do not go together: {USAGE}")
+        options[word] = value
+    if len(files) != 1 and not (files and "--check" in options):
         raise UsageFault(f"{len(files) or 'no'} files given, one is wanted: {USAGE}")
-    return option, files[0]
+    return options, files
 
 
-def load(file):
-    """The text of a scenario, and what faults call it."""
-    try:
-        if file != "-":
-            return pathlib.Path(file).read_bytes().decode("utf-8-sig"), file
-        if sys.stdin is None:
-            raise UsageFault("standard input is closed")
-        return sys.stdin.buffer.read().decode("utf-8-sig"), "standard input"
-    except OSError as fault:
-        raise UsageFault(f"{file}: {fault.strerror}") from None
-    except UnicodeDecodeError:
-        raise UsageFault(f"{file}: not a text in UTF-8, so no scenario") from None
-
-
-def produce(option, file, command):
-    """The octets that go to standard output."""
-    reader, lines = read.read(*load(file))
-    inputs = read.bench_inputs(lines)
-    if option == "--octets":
-        if len(inputs) > 1:
-            raise UsageFault(f"{file}: settings are given {len(inputs)} times, a bench input has them once: "
-                             "--octets is for a scenario with one settings line")
-        return inputs[0][0]
-    if option == "--lines":
-        return "".join(answers.run(command, octets) for octets, _ in inputs).encode()
-    found = answers.to_all(command + ["trace"], inputs)
-    return show.transcript(reader, lines, found, option == "--table").encode()
-
-
-def write(octets):
-    """Standard output, as far as it is read; a pipe whose reader has seen enough is no fault."""
+def put(octets, flush=True):
+    """To standard output, as far as it is read."""
     if sys.stdout is None:
         raise UsageFault("standard output is closed")
-    try:
-        sys.stdout.buffer.write(octets)
+    sys.stdout.buffer.write(octets)
+    if flush:
         sys.stdout.buffer.flush()
-    except OSError as fault:
-        # What is left must not be tried again at the interpreter's end.
-        os.dup2(os.open(os.devnull, os.O_WRONLY), sys.stdout.fileno())
-        if not isinstance(fault, BrokenPipeError):
-            raise UsageFault(f"standard output: {fault.strerror}") from None
+
+
+def octets(lines, name):
+    """The bench input, whole or not at all."""
+    with tempfile.TemporaryFile() as laid:
+        settings = 0
+        for line in lines:
+            settings += line.settings is not None
+            laid.write(line.settings.record if line.settings else b"")
+            laid.writelines(event.record for event in line.events)
+        if settings > 1:
+            raise UsageFault(f"{name}: settings are given {settings} times, a bench input has them once: "
+                             "--octets is for a scenario with one settings line")
+        laid.seek(0)
+        for piece in iter(lambda: laid.read(stream.PIECE), b""):
+            put(piece)
+
+
+def tell(lines, name, command, with_table):
+    """The transcript; the number of expectations that were not met."""
+    teller, pieces, size = Teller(with_table), [], stream.PIECE
+    for line, played in stream.played(lines, command + ["trace"]):
+        pieces.append(teller.line(line, played))
+        size += len(pieces[-1])
+        if size > stream.PIECE // 4:
+            put("".join(pieces).encode())
+            pieces, size = [], 0
+    put(("".join(pieces) + teller.ending()).encode())
+    for line, came in teller.failed:
+        print(unmet(name, line, came), file=sys.stderr)
+    return len(teller.failed)
+
+
+def unmet(name, line, came):
+    return f"{name}:{line.at}: {' '.join(line.text.split('#', 1)[0].split())}: not met: {came}"
+
+
+def check(lines, name, command):
+    """Prints only what was not as expected; the number of such lines."""
+    teller = Teller()
+    for line, played in stream.played(lines, command + ["trace"]):
+        teller.begin(line)
+        came = teller.judge(line, played)
+        if came:
+            put((unmet(name, line, came) + "\n").encode())
+    if not teller.expected:
+        raise UsageFault(f"{name}: no line says what to expect, so there is nothing to check: scenario --help expect")
+    return len(teller.failed)
+
+
+def produce(options, file, command):
+    """Plays one file as the options say; the number of expectations that were not met."""
+    text, name = source.opened(file)
+    with text:
+        lines = source.lines(text, name)
+        if "--octets" in options:
+            octets(lines, name)
+            return 0
+        stream.ready(command)
+        if "--lines" in options:
+            for piece in stream.plain(lines, command):
+                put(piece.encode())
+            return 0
+        if "--check" in options:
+            return check(lines, name, command)
+        if "--chart" in options:
+            from tools.pictures import played  # the pictures are needed here alone
+            return played.write(stream.played(lines, command + ["trace"]), name, options["--chart"])
+        return tell(lines, name, command, "--table" in options)
+
+
+def play(words):
+    """0 where all is as expected, else 1; a fault with its line."""
+    if any(word in ("--help", "-h") for word in words):
+        put(manual.text([word for word in words if word not in ("--help", "-h")]).encode())
+        return 0
+    options, files = arguments(words)
+    command = shlex.split(options["--bench"]) if "--bench" in options else stream.BENCH
+    return 1 if sum([produce(options, file, command) for file in files]) else 0
 
 
 def main(words):
-    """Ends with 0, or with 1 and one line on standard error."""
+    """Ends with 0, or with 1 and what is wrong on standard error; a pipe whose reader has seen enough is no fault."""
     try:
-        if "--help" in words or "-h" in words:
-            write(manual.text().encode())
-        else:
-            write(produce(*arguments(words), BENCH))
-    except read.ScenarioFault as fault:
+        return play(words)
+    except ScenarioFault as fault:
         print(fault, file=sys.stderr)
-        return 1
-    except (UsageFault, answers.BenchFault) as fault:
+    except (UsageFault, BenchFault) as fault:
         print(f"scenario: {fault}", file=sys.stderr)
-        return 1
     except KeyboardInterrupt:
         return 130
-    return 0
+    except OSError as fault:
+        # What is left must not be tried again at the interpreter's end.
+        os.dup2(os.open(os.devnull, os.O_WRONLY), sys.stdout.fileno())
+        if isinstance(fault, BrokenPipeError):
+            return 0
+        print(f"scenario: standard output: {fault.strerror}", file=sys.stderr)
+    return 1

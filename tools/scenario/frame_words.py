@@ -1,6 +1,7 @@
 """The words for frames, for each type and subtype that has a class, with the fields they take."""
 
 import collections
+import functools
 
 from tools import bench_input as bench
 
@@ -52,6 +53,13 @@ TABLE = [
     Word("qos-cf-ack-poll", _D, 15, 3, "QoS CF-Ack +CF-Poll, no data"),
 ]
 BY_WORD = {row.word: row for row in TABLE}
+BY_TYPE = {}
+for _row in TABLE:
+    BY_TYPE.setdefault((_row.type, _row.subtype), []).append(_row)
+KNOWN = tuple(BY_WORD) + ("raw",)
+# Said of a word that is near none of them.
+FAMILIES = ("management (auth-request, assoc-request, deauth ..), control (rts, ack ..) and data (data, null ..): "
+            "scenario --help frames lists them, scenario --help WORD explains one")
 # The first octets of an Action's body that a word stands for; an SA Query's identifier follows them.
 QUERIES = {"sa-query-request": bytes((bench.SA_QUERY, bench.QUERY_REQUEST)),
            "sa-query-response": bytes((bench.SA_QUERY, bench.QUERY_RESPONSE))}
@@ -89,16 +97,19 @@ RARE = ("version", "flags", "to-ds", "from-ds", "duration", "length")
 RARE_BESIDE_CONTROL = ("third", "sequence")
 
 
+@functools.lru_cache(None)
 def has_sender(row):
     return (row.type, row.subtype) not in ((_C, bench.CTS), (_C, bench.ACK))
 
 
+@functools.lru_cache(None)
 def fixed(row):
     """The fields of the frame's body, by the names of a scenario."""
     laid = bench.BODIES.get(row.subtype, ()) if row.type == _M else ()
     return [name.replace("_", "-") for name, _ in laid]
 
 
+@functools.lru_cache(None)
 def own_fields(row):
     """What this frame can be given, apart from the fields that every frame has."""
     names = ["from", "to"] if has_sender(row) else ["to"]
@@ -111,5 +122,6 @@ def own_fields(row):
     return names + body + ["elements"]
 
 
+@functools.lru_cache(None)
 def fields_of(row):
     return own_fields(row) + list(RARE if row.type == _C else RARE + RARE_BESIDE_CONTROL)

@@ -14,34 +14,36 @@ COMEBACK_HEAD = bytes((bench.TIMEOUT_INTERVAL, 5, bench.COMEBACK))
 QOS = 8
 
 
-def default(row, name, settings, given):
-    """The value of a field that the line leaves out."""
-    own, at_ap = settings.own, settings.role == bench.ACCESS_POINT
+def default(row, settings, given):
+    """The values of the fields that a line leaves out; 0 where it is not named here."""
+    own = settings.own
     third = {bench.ACCESS_POINT: own, bench.AD_HOC: settings.network or bench.ZERO}
-    usual = {"to": own, "third": third.get(settings.role, given.get("from", own)),
-             "capability": 0x0011 if settings.rsna == 1 else 0x0001, "listen-interval": 10,
-             "transaction": 1 if row.word == "auth-request" else 2,
-             "aid": 0 if given.get("status") else 1,
-             "reason": 8 if row.word == "disassoc" else 3, "id": 1,
-             "elements": b"", "body": b"", "comeback": None, "aid-field": None, "category": None,
-             "length": None}
+    values = {"to": own, "third": third.get(settings.role, given.get("from", own)),
+              "capability": 0x0011 if settings.rsna == 1 else 0x0001, "listen-interval": 10,
+              "transaction": 1 if row.word == "auth-request" else 2,
+              "aid": 0 if given.get("status") else 1,
+              "reason": 8 if row.word == "disassoc" else 3, "id": 1,
+              "elements": b"", "body": b"", "comeback": None, "aid-field": None, "category": None,
+              "length": None}
     if row.type == bench.DATA:
-        usual["to-ds"], usual["from-ds"] = int(at_ap), int(settings.role == bench.STATION)
-        usual["body"] = b"\0\0" if row.subtype & QOS else b""
-    return usual.get(name, 0)
+        values["to-ds"] = int(settings.role == bench.ACCESS_POINT)
+        values["from-ds"] = int(settings.role == bench.STATION)
+        values["body"] = b"\0\0" if row.subtype & QOS else b""
+    return values
 
 
 def filled(row, given, settings):
     """Every field of the frame: those given, and the usual ones."""
+    names = frame_words.fields_of(row)
     for name in ("from", "current-ap"):
-        if name in frame_words.fields_of(row) and name not in given:
+        if name in names and name not in given:
             raise Fault(f"{row.word} needs {name}=ADDRESS")
     if "aid" in given and "aid-field" in given:
         raise Fault("aid and aid-field are one field: give one of them")
     if given.get("flags", 0) & DS_BITS:
         raise Fault("flags: the two lowest bits are to-ds and from-ds: give those by name")
-    return {name: given[name] if name in given else default(row, name, settings, given)
-            for name in frame_words.fields_of(row)}
+    left_out = default(row, settings, given)
+    return {name: given[name] if name in given else left_out.get(name, 0) for name in names}
 
 
 def _aid_field(fields):
@@ -88,8 +90,7 @@ def word_of(octets):
     first that the octets fit: transaction 1, or an Action's first octets; the last fits all."""
     if len(octets) < 2:
         return None
-    wanted = octets[0] >> 2 & 3, octets[0] >> 4
-    rows = [row for row in frame_words.TABLE if (row.type, row.subtype) == wanted]
+    rows = frame_words.BY_TYPE.get((octets[0] >> 2 & 3, octets[0] >> 4), ())
     return next((row for row in rows if row is rows[-1] or _fits(row, octets)), None)
 
 

@@ -2,25 +2,27 @@
 
 import re
 
-NUMBER = re.compile(r"[0-9]+")
+# A number, and octets in a row as addresses have them: of these nothing is counted.
+PART = re.compile(r"([0-9a-f]{2}(?::[0-9a-f]{2})+|[0-9]+)")
 
 
-def _numbers(text):
-    return NUMBER.findall(text)
+def _next(one, other):
+    """Whether a number is the one behind another, with as many noughts before it."""
+    if not (one.isdigit() and other.isdigit()) or int(other) != int(one) + 1:
+        return False
+    return one == str(int(one)) if len(one) != len(other) else True
 
 
 def _steps(first, second):
     """0 or 1 for each number of two texts; None where they differ in anything else."""
-    if NUMBER.split(first) != NUMBER.split(second):
+    ones, others = PART.split(first), PART.split(second)
+    if ones[::2] != others[::2]:
         return None
     steps = []
-    for one, other in zip(_numbers(first), _numbers(second)):
-        if one == other:
-            steps.append(0)
-        elif one == str(int(one)) and other == str(int(one) + 1):
-            steps.append(1)
-        else:
+    for one, other in zip(ones[1::2], others[1::2]):
+        if one != other and not _next(one, other):
             return None
+        steps.append(int(one != other))
     return steps
 
 
@@ -41,10 +43,8 @@ def runs(texts):
 
 def joined(first, last):
     """One text for a run: 'place 0' to 'place 29' is 'place 0..29'."""
-    between = NUMBER.split(first)
-    spans = [one if one == other else f"{one}..{other}"
-             for one, other in zip(_numbers(first), _numbers(last))]
-    return between[0] + "".join(span + rest for span, rest in zip(spans, between[1:]))
+    return "".join(one if one == other else f"{one}..{other}"
+                   for one, other in zip(PART.split(first), PART.split(last)))
 
 
 def lines(texts):

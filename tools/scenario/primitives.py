@@ -2,7 +2,8 @@
 
 import collections
 
-from .values import number, one_of
+from .suggest import one_of
+from .values import Fault, number
 
 Primitive = collections.namedtuple("Primitive", "number word name code default roles")
 
@@ -30,3 +31,12 @@ def find(text):
         which = number(text, "primitive", 255)
         return BY_NUMBER.get(which) or Primitive(which, text, "unknown", "code", 0, "none")
     return BY_WORD[one_of(text, BY_WORD, "primitive")]
+
+
+def takes(row, name):
+    """A fault where a primitive is given what is a frame's, or another primitive's."""
+    if name in ("comeback", "elements", "body"):
+        raise Fault(f"primitive {row.word} takes no {name}: the table writes no elements, the host appends them "
+                    f"to the frame; {name}=.. is for a frame that comes in")
+    if name in CODES and name not in ("code", row.code):
+        raise Fault(f"the code of primitive {row.word} is not called {name}: {row.code}=..")

@@ -2,52 +2,20 @@
 
 from tools import bench_input as bench
 
-from . import codes, merge, words
+from . import codes, expect, merge, words
+from .names import Names
+from .values import visible
 
 INDENT = "    "
 EACH = "each"
+MOST_KEPT = 4096
 PROTECTION = {0: "management frames not protected", 1: "management frames protected"}
-
-
-def _said(one, reader, name=None):
-    """The words of an event as one text; the peer goes by the name given, if any."""
-    event, answer, before = one
-    say = reader.names.say
-
-    def call(address):
-        return name if name and address == event.peer else say(address)
-    return "\n".join(words.tell(event, answer, before, reader.settings.role, call))
 
 
 def _numbered(number, text):
     """The event's number before the first line, the others below it."""
     head = f"{INDENT}{number}  "
-    return [head + text.replace("\n", "\n" + " " * len(head))]
-
-
-def _one(one, reader, with_table):
-    text = _said(one, reader)
-    if with_table:
-        text = "\n".join([text] + words.table(one[1], reader.names.say))
-    return _numbered(one[1].number, text)
-
-
-def _line(played, reader, with_table):
-    """What the events of one line of the scenario did; those that did alike are told once."""
-    if with_table or len(played) == 1:
-        return [text for one in played for text in _one(one, reader, with_table)]
-    texts = [_said(one, reader, EACH) for one in played]
-    told = []
-    for at, count in merge.runs(texts):
-        first, last = played[at], played[at + count - 1]
-        if count == 1:
-            told += _one(first, reader, False)
-        else:
-            peers = f"{reader.names.say(first[0].peer)} to {reader.names.say(last[0].peer)}"
-            text = merge.joined(texts[at], texts[at + count - 1])
-            told += _numbered(f"{first[1].number}..{last[1].number}",
-                              f"{count} events, one for each of {peers}:\n{text}")
-    return told
+    return head + text.replace("\n", "\n" + " " * len(head))
 
 
 def _settings(settings, again, say):
@@ -69,18 +37,105 @@ def _settings(settings, again, say):
     return f"{text}, SA Query: retry {retry} TU, maximum {maximum} TU"
 
 
-def transcript(reader, lines, answers, with_table=False):
-    """All lines of the scenario with the answers between them."""
-    told, at, before, again = [], 0, {}, False
-    for line in lines:
-        told.append(line.text)
-        if line.settings:
-            reader.begin(line.settings)
-            told.append(_settings(line.settings, again, reader.names.say))
-            before, again = {}, True
-        played = []
-        for event in line.events:
-            played.append((event, answers[at], before))
-            before, at = answers[at].table, at + 1
-        told += _line(played, reader, with_table) if played else []
-    return "".join(text + "\n" for text in told)
+class Teller:
+    """Tells line after line; holds the names and settings that are in force there, and what was not as expected."""
+
+    def __init__(self, with_table=False):
+        self.names, self.settings, self.with_table = Names(), None, with_table
+        self.expected, self.failed = 0, []
+        self._played, self._kept = [], {}
+
+    def begin(self, line):
+        """Takes what a line says of names and settings; the words for settings, else none."""
+        if not line.named and not line.settings:
+            return []
+        self._kept.clear()
+        if line.named:
+            self.names.define(*line.named)
+            return []
+        again, self.settings = self.settings is not None, line.settings
+        self.names.set_own(line.settings.own)
+        return [_settings(line.settings, again, self.names.say)]
+
+    def judge(self, line, played):
+        """What came in place of what a line expects, '' where it is met or expects nothing."""
+        self._played = played or self._played
+        if not line.expect:
+            return ""
+        self.expected += 1
+        came = expect.judge(line.expect, self._played, self.names.say)
+        if came:
+            self.failed.append((line, came))
+        return came
+
+    def line(self, line, played):
+        """A line of the scenario and what is told below it."""
+        told = [visible(line.text)]
+        if line.named or line.settings:
+            told += self.begin(line)
+        if line.remark:
+            told.append(INDENT + line.remark)
+        if len(played) == 1:
+            told.append(self._one(played[0]))
+        elif played:
+            told += self._events(played)
+        came = self.judge(line, played)
+        if came:
+            told.append(f"{INDENT}NOT MET: {came}")
+        return "\n".join(told) + "\n"
+
+    def ending(self):
+        """How many expectations there were, and how many were met; nothing where there were none."""
+        if not self.expected:
+            return ""
+        each = "1 expectation" if self.expected == 1 else f"{self.expected} expectations"
+        lines = ", ".join(str(line.at) for line, _ in self.failed)
+        return f"{each}, " + (f"{len(self.failed)} not met: line {lines}\n" if self.failed else "all met\n")
+
+    def _events(self, played):
+        """What the events of one line did; those that did alike are told once."""
+        if self.with_table:
+            return [self._one(one) for one in played]
+        if played[0][0].kind == "clock":
+            text = "\n".join(words.steps(played, self.names.say))
+            return [_numbered(f"{played[0][1].number}..{played[-1][1].number}", text)]
+        texts = [self._said(one, EACH) for one in played]
+        told = []
+        for at, count in merge.runs(texts):
+            first, last = played[at], played[at + count - 1]
+            if count == 1:
+                told.append(self._one(first))
+            else:
+                peers = f"{self.names.say(first[0].peer)} to {self.names.say(last[0].peer)}"
+                text = merge.joined(texts[at], texts[at + count - 1])
+                told.append(_numbered(f"{first[1].number}..{last[1].number}",
+                                      f"{count} events, one for each of {peers}:\n{text}"))
+        return told
+
+    def _one(self, one):
+        text = self._again(one)
+        if self.with_table:
+            text = "\n".join([text] + words.table(one[1], self.names.say))
+        return _numbered(one[1].number, text)
+
+    def _again(self, one):
+        """The words of an event: those told before where an event of this kind did the same."""
+        event, answer, before = one
+        peer = words.device(event.peer, answer.table)
+        if answer.changed not in ((), (peer,)):
+            return self._said(one)
+        what = event.record if event.raw or answer.refusal else event[1:4]
+        key = what, answer[1:10], before.get(peer), answer.table.get(peer)
+        told = self._kept.get(key)
+        if told is None:
+            if len(self._kept) >= MOST_KEPT:
+                self._kept.clear()
+            told = self._kept[key] = self._said(one)
+        return told
+
+    def _said(self, one, name=None):
+        """The words of an event as one text; the peer goes by the name given, if any."""
+        event, answer, before = one
+        say = self.names.say
+        call = (lambda address: name if address == event.peer else say(address)) if name else say
+        return "\n".join(words.tell(event, answer, before, self.settings.role, call))

@@ -125,6 +125,8 @@ def notice(answer, say):
 
 def device(address, table):
     """The device that has this address as a link; the address itself where none has."""
+    if address is None or address in table:
+        return address
     return next((record.address for record in table.values() if address in record.links), address)
 
 
@@ -137,20 +139,43 @@ def records(event, answer, before, say):
         lines.append(change(say, before.get(peer), after[peer], rejected))
     elif peer is not None:
         lines.append(f"{say(peer)}: no record")
+    return lines + others(answer.changed, before, after, say, peer)
+
+
+def others(changed, before, after, say, peer=None):
+    """The records that are not as they were, but for the peer's."""
+    told = [change(say, before.get(address), after.get(address)) for address in changed if address != peer]
+    return merge.lines(told) if len(told) > 2 else told
+
+
+def steps(played, say):
+    """What several clock steps did together."""
+    octets = b"".join(answer.octets for _, answer, _ in played)
+    before, after = played[0][2], played[-1][1].table
     places = {**before, **after}
-    others = [change(say, before.get(address), after.get(address))
-              for address in sorted(places, key=lambda known: places[known].place)
-              if address != peer and before.get(address) != after.get(address)]
-    return lines + merge.lines(others)
+    changed = [address for address in sorted(places, key=lambda known: places[known].place)
+               if before.get(address) != after.get(address)]
+    return reports(octets, say) + others(changed, before, after, say) or ["nothing changes"]
+
+
+def refused(event, answer, role):
+    """Why an event was refused."""
+    return codes.refusal(answer.refusal, event.kind, event.primitive, role)
+
+
+def discarded(answer):
+    """Why a frame was discarded, as far as the reply says it."""
+    found = frames.decode(answer.octets) if answer.octets else None
+    reason = found[1].get("reason") if found else None
+    return f": {codes.REASON[reason]}" if reason in codes.REASON else ""
 
 
 def tell(event, answer, before, role, say):
     """The lines that say what an event did."""
     lines = ["heard as " + frame(event.frame, say)] if event.raw and frames.decode(event.frame) else []
     if answer.refusal:
-        why = codes.refusal(answer.refusal, event.kind, event.primitive, role)
-        lines.append(f"refused {answer.refusal}: {why}")
-        if answer.table == before and not answer.octets:
+        lines.append(f"refused {answer.refusal}: {refused(event, answer, role)}")
+        if not answer.changed and not answer.octets:
             lines[-1] += "; nothing changes"
             return lines
     if answer.verdict in VERDICTS:
@@ -158,8 +183,7 @@ def tell(event, answer, before, role, say):
     if answer.notice:
         lines.append(notice(answer, say))
     if answer.octets:
-        clock = event.kind == "clock"
-        lines += reports(answer.octets, say) if clock else [sent(answer.octets, say)]
+        lines += reports(answer.octets, say) if event.kind == "clock" else [sent(answer.octets, say)]
     if answer.ds in DS:
         lines.append(f"tells the distribution system: {DS[answer.ds]}")
     lines += records(event, answer, before, say)
