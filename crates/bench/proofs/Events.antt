@@ -10,6 +10,7 @@ use Rattle.table.specs.declared.rules.event.Event.{Event}
 use Rattle.bench.specs.Line.{lineOf}
 use Rattle.bench.specs.Output.{Output, short, upTo, putOf, putAll}
 use Rattle.bench.specs.Play.{numberAfter}
+use Rattle.bench.specs.Printed.{shownBy}
 use Rattle.bench.specs.Run.{behindOf, playedOf, scratchOf, eventLines, eventOutput, eventOf}
 use Rattle.bench.specs.Trace.{traceLines}
 use Rattle.bench.specs.declared.run.Run.{Run}
@@ -17,13 +18,13 @@ use Rattle.bench.specs.declared.run.Run.{Run}
 module _ (r : Run) (e : Event) (xs l : List ℕ) (number : ℕ) (a : Answer) (counted : number ≡ numberAfter (r .number)) (answered : a ≡ playedOf r e xs .answer) where
   -- its line alone
   pub plain-output : (o : Output) → r .trace ≡ false → o ≡ putOf (short (lineOf number a)) (upTo l (r .out)) → o ≡ eventOutput r e xs l
-  unfolding eventOutput eventLines putAll
+  unfolding eventOutput eventLines shownBy putAll
   plain-output o f p = rw (f, p, counted, answered)
 
   -- its line, and what the trace shows behind it
   pub traced-output : (scratch : List ℕ) (t : List Record) (o o′ : Output) → scratch ≡ scratchOf r e xs → t ≡ playedOf r e xs .table → r .trace ≡ true →
       o ≡ putOf (short (lineOf number a)) (upTo l (r .out)) → o′ ≡ putAll (traceLines a scratch t) o → o′ ≡ eventOutput r e xs l
-  unfolding eventOutput eventLines putAll
+  unfolding eventOutput eventLines shownBy putAll
   traced-output scratch t o o′ s g f p q = rw (f, q, p, counted, answered, s, g)
 
 -- the run behind it, with the output k filled up to n

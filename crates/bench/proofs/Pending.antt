@@ -14,9 +14,10 @@ use Rattle.peer.specs.Record.{isFree}
 use Rattle.peer.specs.declared.record.Record.{Record}
 use Rattle.table.specs.declared.rules.answer.Answer.{Answer}
 use Rattle.table.specs.declared.rules.event.Event.{Event}
-use Rattle.bench.specs.Line.{lineOf}
+use Rattle.bench.specs.Line.{lineOf, stopLine}
 use Rattle.bench.specs.Output.{Output, Line, upTo, putOf, putAll, pending, said, roomFor, short}
 use Rattle.bench.specs.Play.{numberAfter}
+use Rattle.bench.specs.Printed.{shownBy}
 use Rattle.bench.specs.Run.{playedOf, scratchOf, eventLines, eventOutput}
 use Rattle.bench.specs.Trace.{currentLines, hasQuery, linksLine, linksLines, octetsLines, placeLine, placeLines, queryLine, queryLines, tableLines, traceLines}
 use Rattle.bench.specs.declared.run.Run.{Run}
@@ -139,7 +140,7 @@ trace-within a s t h g =
 -- An event of a table of 32 records.
 module _ (r : Run) (e : Event) (xs : List ℕ) (h : length (scratchOf r e xs) ≡ 256) (g : length (playedOf r e xs .table) ≡ 32) where
   pub event-within : Within 6848 (eventLines r e xs)
-  unfolding eventLines
+  unfolding eventLines shownBy
   event-within =
       both {m = 64} (one-line _ (line-length (numberAfter (r .number)) (playedOf r e xs .answer)) (omega arith))
       (pick-by (Within 6784) (r .trace) (λ b. trace-within (playedOf r e xs .answer) (scratchOf r e xs) (playedOf r e xs .table) h g) (λ b. no-line))
@@ -148,3 +149,7 @@ module _ (r : Run) (e : Event) (xs : List ℕ) (h : length (scratchOf r e xs) �
   pub event-pending : (l : List ℕ) → r .out + 6848 ≤ length l → pending (eventOutput r e xs l) ≡ take (r .out) l ++ said (eventLines r e xs)
   unfolding eventOutput
   event-pending l k = let w = event-within in pending-all (eventLines r e xs) (upTo l (r .out)) (w .fits) (omega (arith, w .asks))
+
+-- The line `stop` behind what is there.
+pub stop-pending : (l : List ℕ) (n : ℕ) → n + 64 ≤ length l → pending (putOf (short stopLine) (upTo l n)) ≡ take n l ++ stopLine
+stop-pending l n h = put-pending (short stopLine) (upTo l n) (omega arith) h

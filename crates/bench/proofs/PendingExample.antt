@@ -25,6 +25,7 @@ use Rattle.table.specs.declared.rules.event.Event.the-variants.{Links}
 use Rattle.bench.specs.Line.{backOf, frontOf, lineOf}
 use Rattle.bench.specs.Output.{pending, said}
 use Rattle.bench.specs.Play.{numberAfter}
+use Rattle.bench.specs.Printed.{shownBy}
 use Rattle.bench.specs.Run.{eventLines, eventOutput, playedOf, scratchOf}
 use Rattle.bench.specs.Text.{fieldOf, glyphOf, hexOctet, hexOf, tens}
 use Rattle.bench.specs.Trace.{currentLines, hasQuery, linkText, linksLine, linksLines, nameOf, octetsLines, placeLine, placeLines, queryLines, tableLines, traceLines}
@@ -51,7 +52,7 @@ record AtWork : Type 0 where
 at-work : AtWork
 unfolding validOf groupOf linksAt noLinks placeFits freshOf isFree withLinks networkFits queryTimesFit roleAnswers roleAssociates settingsFit timeFits linkingOf turnOf
     refusedOf settledOf steppedOf tableOf aloneIn sparseOf wellFormed countFits linkAllowed linkedAt linkedOf mayLink usedElsewhere allTails findLinkOf firstFrom
-    linkAddressesOf someOf firstOf unless newcomerOf seatedOf startsOf said numberAfter eventLines currentLines hasQuery linksLines octetsLines placeLines queryLines
+    linkAddressesOf someOf firstOf unless newcomerOf seatedOf startsOf said numberAfter eventLines shownBy currentLines hasQuery linksLines octetsLines placeLines queryLines
     tableLines traceLines lineOf frontOf backOf placeLine nameOf linksLine linkText fieldOf tens hexOf hexOctet glyphOf octets
 at-work = record { scratch = refl; table = refl; lines = refl; text = refl }
 

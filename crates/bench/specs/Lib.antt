@@ -4,5 +4,7 @@ pub mod Line
 pub mod Input
 pub mod Play
 pub mod Trace
+pub mod Printed
 pub mod Run
 pub mod Turn
+pub mod Rounds

@@ -2,8 +2,8 @@
 -- Assumes nothing.
 use Prim.Native.Nat.{ℕ, _+_, _-_}
 use mathlib.Core.Bool.{Bool, true, false, _&&_}
-use mathlib.Core.List.{List, [], _∷_, _++_}
-use lib.Dec.{leb}
+use mathlib.Core.List.{List, _++_}
+use lib.Dec.{eqb, leb}
 use lib.ListN.{length, take, drop, replicate}
 use Rattle.octets.specs.Pick.{pick}
 use Rattle.peer.specs.Record.{freeOf}
@@ -11,10 +11,10 @@ use Rattle.peer.specs.declared.settings.Settings.{Settings}
 use Rattle.table.specs.Step.{stepOf, stepIn}
 use Rattle.table.specs.declared.rules.answer.Stepped.{Stepped}
 use Rattle.table.specs.declared.rules.event.Event.{Event}
-use Rattle.bench.specs.Line.{lineOf, stopLine}
+use Rattle.bench.specs.Line.{stopLine}
 use Rattle.bench.specs.Output.{Output, Line, short, upTo, putOf, putAll}
 use Rattle.bench.specs.Play.{zeros, numberAfter}
-use Rattle.bench.specs.Trace.{traceLines}
+use Rattle.bench.specs.Printed.{shownBy}
 use Rattle.bench.specs.declared.run.Run.{Run}
 
 -- "The table starts empty": 32 free records; no event yet, both buffers empty.
@@ -60,11 +60,9 @@ playedOf r e frame = stepOf (r .settings) (r .table) e frame 256
 abbrev pub scratchOf : Run → Event → List ℕ → List ℕ
 scratchOf r e frame = stepIn (r .settings) (r .table) e frame zeros
 
--- The lines of an event: "one line an event", numbered from 1; behind it what a trace shows of the answer, the scratch and the new table.
+-- The lines of an event (Printed.antt), which has the next number.
 unfoldable pub eventLines : Run → Event → List ℕ → List Line
-eventLines r e frame =
-    short (lineOf (numberAfter (r .number)) (playedOf r e frame .answer)) ∷
-    pick (r .trace) (traceLines (playedOf r e frame .answer) (scratchOf r e frame) (playedOf r e frame .table)) []
+eventLines r e frame = shownBy (r .trace) (numberAfter (r .number)) (r .settings) (r .table) e frame
 
 -- The output buffer l after it: its lines behind those that are there.
 unfoldable pub eventOutput : Run → Event → List ℕ → List ℕ → Output
@@ -102,9 +100,28 @@ flushedOf r done =
       trace = r .trace;
     }
 
--- "prints `stop` and ends": the buffer l after it
-abbrev pub stoppedIn : Run → List ℕ → List ℕ
-stoppedIn r l = putOf (short stopLine) (upTo l (r .out)) .octets
+-- The run is done; the first n octets of the output buffer are still to be written.
+unfoldable pub doneOf : Run → ℕ → Run
+doneOf r n =
+    record {
+      settings = r .settings;
+      table = r .table;
+      number = r .number;
+      at = r .at;
+      have = r .have;
+      out = n;
+      first = r .first;
+      over = r .over;
+      done = true;
+      trace = r .trace;
+    }
+
+-- "prints `stop` and ends": the output buffer l after it. At the end of the input it is so where an octet is left: "a cut record".
+abbrev pub stopOutput : Run → List ℕ → Output
+stopOutput r l = putOf (short stopLine) (upTo l (r .out))
+
+unfoldable pub endOutput : Run → List ℕ → Output
+endOutput r l = pick (eqb (r .at) (r .have)) (upTo l (r .out)) (stopOutput r l)
 
 -- The octets of the input buffer that are still to be taken, at the front of it; how many. Where `at` and `have` are no places of the buffer it
 -- stays, and there are none.

@@ -17,13 +17,13 @@ use peer::record::Record;
 use peer::settings::Settings;
 use table::rules::event::Event;
 ghost use mathlib.Core.Path.{_≡_};
-ghost use mathlib.Core.Bool.{true};
 ghost use lib.ListN.{length};
 ghost use Rattle.peer.specs.Record.{freeOf};
 ghost use Rattle.table.specs.Step.{stepOf, stepIn};
 ghost use Rattle.bench.specs.Play.{zeros, numberAfter};
-ghost use Rattle.bench.specs.Run.{startOf, behindOf, begunOf, eventOf, eventOutput, flushedOf, stoppedIn};
-ghost use Rattle.bench.specs.Turn.{Refilled, Short, TurnOf, Rounded};
+ghost use Rattle.bench.specs.Run.{startOf, behindOf, begunOf, doneOf, eventOf, eventOutput, stopOutput};
+ghost use Rattle.bench.specs.Turn.{Flushed, Refilled, Rounded, Turned, TurnOf};
+ghost use Rattle.bench.specs.declared.input.Taken.the-variants.{Cut};
 
 // Where a run stands. Of the input buffer the octets from `at` to `have` are still to be taken; of the output buffer the first `out` are
 // lines still to be written.
@@ -88,7 +88,7 @@ fn behind(at: usize, n: usize, have: usize) -> usize
 
 // Writes out the lines of the buffer.
 fn flush(output: &[u8], r: Run) -> Run
-    ensures { λ q. ⌜ q ≡ flushedOf r (q .done) ⌝ }
+    ensures { λ q. ⌜ Flushed (now (output .entry)) r q ⌝ }
 {
     let out = r.out;
     let mut next = r;
@@ -105,33 +105,33 @@ fn flush(output: &[u8], r: Run) -> Run
     next
 }
 
-// Writes out the lines, and ends the run.
-fn finish(output: &[u8], r: Run) -> Run
-    ensures { λ q. ⌜ q ≡ flushedOf r true ⌝ }
+// Ends the run.
+fn finish(r: Run) -> Run
+    ensures { λ q. ⌜ q ≡ doneOf r (r .out) ⌝ }
 {
-    let mut next = flush(output, r);
+    let mut next = r;
     next.done = true;
     next
 }
 
 // Ends the run with the line `stop`.
 fn stop(output: &mut [u8], r: Run) -> Run
-    ensures { λ q. ⌜ (q ≡ flushedOf r true) × (now (output .exit) ≡ stoppedIn r (now (output .entry))) ⌝ }
+    ensures { λ q. ⌜ (q ≡ doneOf r (stopOutput r (now (output .entry)) .filled)) × (now (output .exit) ≡ stopOutput r (now (output .entry)) .octets) ⌝ }
 {
     let mut next = r;
     next.out = write_stop(output, r.out);
-    finish(output, next)
+    finish(next)
 }
 
 // Reads on behind what is left.
-fn refill(input: &mut [u8], output: &[u8], r: Run) -> Run
+fn refill(input: &mut [u8], r: Run) -> Run
     ensures { λ q. ⌜ Refilled (now (input .entry)) r (now (input .exit)) q ⌝ }
 {
     let mut next = r;
     let left = shift(input, r.at, r.have);
     let got = libc::read(STDIN_FILENO, &mut input[left..]);
     if got < 0 {
-        return finish(output, next);
+        return finish(next);
     }
     let n = io::count(got, &input[left..]);
     next.at = 0;
@@ -142,16 +142,16 @@ fn refill(input: &mut [u8], output: &[u8], r: Run) -> Run
 
 // A record that is not there whole: more is read, unless the input came to its end.
 fn cut(input: &mut [u8], output: &mut [u8], r: Run) -> Run
-    ensures { λ q. ⌜ Short (now (input .entry)) (now (output .entry)) r (now (input .exit)) (now (output .exit)) q ⌝ }
+    ensures { λ q. ⌜ Turned Cut (now (input .entry)) (now (output .entry)) r (now (input .exit)) (now (output .exit)) q ⌝ }
 {
     if r.over {
         if r.at == r.have {
-            finish(output, r)
+            finish(r)
         } else {
             stop(output, r)
         }
     } else {
-        refill(input, output, r)
+        refill(input, r)
     }
 }
 
@@ -214,10 +214,10 @@ pub fn turn(input: &mut [u8], output: &mut [u8], r: Run) -> Run
     let at = r.at;
     let have = r.have;
     if have < at {
-        return finish(output, r);
+        return finish(r);
     }
     if input.len() < have {
-        return finish(output, r);
+        return finish(r);
     }
     let t = take(&input[at..have], r.first);
     match t {
@@ -231,17 +231,16 @@ pub fn turn(input: &mut [u8], output: &mut [u8], r: Run) -> Run
     }
 }
 
-// The same, and the lines are written out where little room is left.
+// The same; and where that is the end, or little room is left, the lines are written out. This alone writes, and `refill` alone reads.
 pub fn round(input: &mut [u8], output: &mut [u8], r: Run) -> Run
     ensures { λ q. ⌜ Rounded (now (input .entry)) (now (output .entry)) r (now (input .exit)) (now (output .exit)) q ⌝ }
 {
     let next = turn(input, output, r);
-    if output.len() < 8192 {
+    if next.done {
         return flush(output, next);
     }
-    if output.len() - 8192 < next.out {
-        flush(output, next)
-    } else {
-        next
+    if has_room(output.len(), next.out, 8192) {
+        return next;
     }
+    flush(output, next)
 }

@@ -1,13 +1,14 @@
--- `bench::run_all` meets its contract: both buffers keep their length, and the turns fall.
+-- `bench::run_all` meets its contract: its rounds go one behind the other (specs/Rounds.antt), and the turns fall.
 -- Assumes nothing.
 use borrow.Author.Needs.{needs}
 use lib.ListN.{length}
-use mathlib.Core.Path.{_≡_}
+use mathlib.Core.Path.{_≡_, refl}
+use Rattle.bench.proofs.Reached.{Reached, at-first, round-on}
 use Rattle.bench.proofs.run_all.Statement.{statement}
 use Rattle.bench.proofs.run_all.Tie as tie
 
 abbrev Inv-loop : tie.InvT-loop
-Inv-loop trace input₀ output₀ r₀ turns₀ input output r turns = (length input ≡ 65536) × (length output ≡ 65536)
+Inv-loop trace input₀ output₀ r₀ turns₀ input output r turns = (length input ≡ 65536) × (length output ≡ 65536) × (Reached trace input output r)
 
 abbrev μ-loop : tie.MeasureT-loop
 μ-loop trace input₀ output₀ r₀ turns₀ input output r turns = turns
@@ -16,7 +17,7 @@ new-requires : tie.Need-new-requires Inv-loop μ-loop
 new-requires c κs = search needs
 
 loop-holds : tie.Need-loop-holds Inv-loop μ-loop
-loop-holds c = search needs
+loop-holds c = (search needs, search needs, at-first _ _ _ _ refl refl (c .new .ensures))
 
 returns : tie.Need-returns Inv-loop μ-loop
 returns c = search needs
@@ -37,7 +38,7 @@ loop-less : tie.Need-loop-less Inv-loop μ-loop
 loop-less c = search needs
 
 loop-again : tie.Need-loop-again Inv-loop μ-loop
-loop-again c = search needs
+loop-again c = (search needs, search needs, round-on _ _ _ (c .before .before .before .before .before .before .before .loop .inv .2) (c .before .before .before .before .before .if1 .left) (search needs) (search needs) (c .before .before .before .before .before .before .before .loop .inv .1) (c .before .before .round .ensures))
 
 returns-2 : tie.Need-returns-2 Inv-loop μ-loop
 returns-2 c = search needs

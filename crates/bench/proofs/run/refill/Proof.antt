@@ -17,8 +17,8 @@ shift-requires c κs = search needs
 
 sub-read : tie.Need-sub-read
 sub-read c =
-    let r = c .before .before .before .before .before .before .args .r in
-    let s = now (c .before .before .before .before .before .before .args .input) in
+    let r = c .before .before .before .before .before .args .r in
+    let s = now (c .before .before .before .before .before .args .input) in
     let e = c .before .before .shift .ensures .0 in
     let k : length (c .before .before .shift .last .0) ≡ length s = c .before .before .shift .kept .0 in
     let h : c .before .before .shift .result ≤ length (c .before .before .shift .last .0) = omega (arith, left-le (r .at) (r .have) (length s)) in
@@ -26,8 +26,8 @@ sub-read c =
 
 part-read-start : tie.Need-part-read-start
 part-read-start c =
-    let r = c .before .before .before .before .before .before .args .r in
-    let s = now (c .before .before .before .before .before .before .args .input) in
+    let r = c .before .before .before .before .before .args .r in
+    let s = now (c .before .before .before .before .before .args .input) in
     let e = c .before .before .shift .ensures .0 in
     let k : length (c .before .before .shift .last .0) ≡ length s = c .before .before .shift .kept .0 in
     let h : c .before .before .shift .result ≤ length (c .before .before .shift .last .0) = omega (arith, left-le (r .at) (r .have) (length s)) in
@@ -50,8 +50,8 @@ returns c = failed (c .finish .ensures)
 
 sub-count : tie.Need-sub-count
 sub-count c =
-    let r = c .before .before .before .before .before .before .before .before .before .before .before .args .r in
-    let s = now (c .before .before .before .before .before .before .before .before .before .before .before .args .input) in
+    let r = c .before .before .before .before .before .before .before .before .before .before .args .r in
+    let s = now (c .before .before .before .before .before .before .before .before .before .before .args .input) in
     let e = c .before .before .before .before .before .before .before .shift .ensures .0 in
     let k : length (c .before .before .before .before .before .before .before .shift .last .0) ≡ length s = c .before .before .before .before .before .before .before .shift .kept .0 in
     let h : c .before .before .before .before .before .before .before .shift .result ≤ length (c .before .before .before .before .before .before .before .shift .last .0) = omega (arith, left-le (r .at) (r .have) (length s)) in
@@ -59,8 +59,8 @@ sub-count c =
 
 part-count-start : tie.Need-part-count-start
 part-count-start c =
-    let r = c .before .before .before .before .before .before .before .before .before .before .before .before .args .r in
-    let s = now (c .before .before .before .before .before .before .before .before .before .before .before .before .args .input) in
+    let r = c .before .before .before .before .before .before .before .before .before .before .before .args .r in
+    let s = now (c .before .before .before .before .before .before .before .before .before .before .before .args .input) in
     let e = c .before .before .before .before .before .before .before .before .shift .ensures .0 in
     let k : length (c .before .before .before .before .before .before .before .before .shift .last .0) ≡ length s = c .before .before .before .before .before .before .before .before .shift .kept .0 in
     let h : c .before .before .before .before .before .before .before .before .shift .result ≤ length (c .before .before .before .before .before .before .before .before .shift .last .0) = omega (arith, left-le (r .at) (r .have) (length s)) in
@@ -80,8 +80,8 @@ same-length-2 c = search needs
 
 returns-2 : tie.Need-returns-2
 returns-2 c =
-    let r = c .before .before .before .before .before .before .before .before .before .before .before .before .before .before .before .args .r in
-    let s = now (c .before .before .before .before .before .before .before .before .before .before .before .before .before .before .before .args .input) in
+    let r = c .before .before .before .before .before .before .before .before .before .before .before .before .before .before .args .r in
+    let s = now (c .before .before .before .before .before .before .before .before .before .before .before .before .before .before .args .input) in
     let e = c .before .before .before .before .before .before .before .before .before .before .before .shift .ensures .0 in
     let k : length (c .before .before .before .before .before .before .before .before .before .before .before .shift .last .0) ≡ length s = c .before .before .before .before .before .before .before .before .before .before .before .shift .kept .0 in
     let h : c .before .before .before .before .before .before .before .before .before .before .before .shift .result ≤ length (c .before .before .before .before .before .before .before .before .before .before .before .shift .last .0) = omega (arith, left-le (r .at) (r .have) (length s)) in

@@ -1,7 +1,8 @@
 -- `bench::run::round` meets its contract: a turn, and the lines written out or not.
 -- Assumes nothing.
-use Rattle.bench.specs.Turn.{flushed, plain}
+use Rattle.bench.specs.Turn.{on, out}
 use borrow.Author.Needs.{needs}
+use mathlib.Core.Path.{sym, _∙_}
 use Rattle.bench.proofs.run.round.Statement.{statement}
 use Rattle.bench.proofs.run.round.Tie as tie
 
@@ -18,13 +19,10 @@ same-length-2 : tie.Need-same-length-2
 same-length-2 c = search needs
 
 returns : tie.Need-returns
-returns c = flushed _ (c .before .before .before .before .before .before .before .turn .ensures) (c .flush .ensures)
+returns c = out _ (c .before .before .before .before .before .before .before .turn .ensures) (c .flush .ensures)
 
-sub-if2 : tie.Need-sub-if2
-sub-if2 c = search needs
-
-flush-requires-2 : tie.Need-flush-requires-2
-flush-requires-2 c κs = search needs
+has-room-requires : tie.Need-has-room-requires
+has-room-requires c κs = search needs
 
 same-length-3 : tie.Need-same-length-3
 same-length-3 c = search needs
@@ -33,7 +31,10 @@ same-length-4 : tie.Need-same-length-4
 same-length-4 c = search needs
 
 returns-2 : tie.Need-returns-2
-returns-2 c = flushed _ (c .before .before .before .before .before .before .before .before .before .turn .ensures) (c .flush2 .ensures)
+returns-2 c = on (c .before .before .before .before .before .before .before .turn .ensures) (c .before .before .if1 .left) (sym (c .before .has-room .ensures) ∙ c .if2 .taken)
+
+flush-requires-2 : tie.Need-flush-requires-2
+flush-requires-2 c κs = search needs
 
 same-length-5 : tie.Need-same-length-5
 same-length-5 c = search needs
@@ -42,7 +43,7 @@ same-length-6 : tie.Need-same-length-6
 same-length-6 c = search needs
 
 returns-3 : tie.Need-returns-3
-returns-3 c = plain (c .before .before .before .before .before .before .before .turn .ensures)
+returns-3 c = out _ (c .before .before .before .before .before .before .before .before .before .turn .ensures) (c .flush2 .ensures)
 
 pub round-spec : {M : Type 1} → statement M
 round-spec =
@@ -53,11 +54,11 @@ round-spec =
     same-length
     same-length-2
     returns
-    sub-if2
-    flush-requires-2
+    has-room-requires
     same-length-3
     same-length-4
     returns-2
+    flush-requires-2
     same-length-5
     same-length-6
     returns-3)

@@ -6,26 +6,21 @@ use denote.Ref.{now}
 use lib.ListN.{length}
 use mathlib.Core.Path.{refl}
 use native.Mathlib.Omega.{arith}
+use Rattle.bench.specs.Turn.{took}
 use Rattle.bench.proofs.run.turn.Statement.{statement}
 use Rattle.bench.proofs.run.turn.Tie as tie
 
 finish-requires : tie.Need-finish-requires
 finish-requires c κs = search needs
 
-same-length : tie.Need-same-length
-same-length c = search needs
-
 returns : tie.Need-returns
-returns c = λ (h : c .before .before .before .before .before .args .r .at ≤ c .before .before .before .before .before .args .r .have) g. absurd (omega arith)
+returns c = λ (h : c .before .before .before .before .args .r .at ≤ c .before .before .before .before .args .r .have) g. absurd (omega arith)
 
 finish-requires-2 : tie.Need-finish-requires-2
 finish-requires-2 c κs = search needs
 
-same-length-2 : tie.Need-same-length-2
-same-length-2 c = search needs
-
 returns-2 : tie.Need-returns-2
-returns-2 c = λ h (g : c .before .before .before .before .before .before .args .r .have ≤ length (now (c .before .before .before .before .before .before .args .input))). absurd (omega arith)
+returns-2 c = λ h (g : c .before .before .before .before .before .args .r .have ≤ length (now (c .before .before .before .before .before .args .input))). absurd (omega arith)
 
 part-take-start : tie.Need-part-take-start
 part-take-start c = search needs
@@ -81,48 +76,46 @@ record-length-requires-2 c κs = search needs
 event-requires : tie.Need-event-requires
 event-requires c κs = search needs
 
+same-length : tie.Need-same-length
+same-length c = search needs
+
+same-length-2 : tie.Need-same-length-2
+same-length-2 c = search needs
+
+returns-3 : tie.Need-returns-3
+returns-3 c = λ h g. rw (← c .before .before .before .before .before .before .take .ensures, c .before .before .before .before .enum-told .given .1) (took (c .before .before .stop .ensures) refl)
+
 same-length-3 : tie.Need-same-length-3
 same-length-3 c = search needs
 
 same-length-4 : tie.Need-same-length-4
 same-length-4 c = search needs
 
-returns-3 : tie.Need-returns-3
-returns-3 c = λ h g. rw (← c .before .before .before .before .before .before .take .ensures, c .before .before .before .before .enum-told .given .1) (c .before .before .stop .ensures .0, c .before .before .stop .ensures .1, refl)
+returns-4 : tie.Need-returns-4
+returns-4 c = λ h g. rw (← c .before .before .before .before .before .before .before .before .before .take .ensures, c .before .before .before .before .before .before .before .enum-told2 .given .1) (c .before .before .before .before .cut .ensures)
 
 same-length-5 : tie.Need-same-length-5
 same-length-5 c = search needs
 
+returns-5 : tie.Need-returns-5
+returns-5 c = λ h g. rw (← c .before .before .before .before .before .before .before .take .ensures, c .before .before .before .before .before .t .given .1) (took (rw (← c .before .record-length .ensures) (c .begin .ensures), refl) refl)
+
 same-length-6 : tie.Need-same-length-6
 same-length-6 c = search needs
-
-returns-4 : tie.Need-returns-4
-returns-4 c = λ h g. rw (← c .before .before .before .before .before .before .before .before .before .take .ensures, c .before .before .before .before .before .before .before .enum-told2 .given .1) (c .before .before .before .before .cut .ensures)
 
 same-length-7 : tie.Need-same-length-7
 same-length-7 c = search needs
 
-returns-5 : tie.Need-returns-5
-returns-5 c = λ h g. rw (← c .before .before .before .before .before .before .before .take .ensures, c .before .before .before .before .before .t .given .1, ← c .before .record-length .ensures) (c .begin .ensures, refl, refl)
-
-same-length-8 : tie.Need-same-length-8
-same-length-8 c = search needs
-
-same-length-9 : tie.Need-same-length-9
-same-length-9 c = search needs
-
 returns-6 : tie.Need-returns-6
-returns-6 c = λ h g. rw (← c .before .before .before .before .before .before .before .before .before .before .before .take .ensures, c .before .before .before .before .before .before .before .before .before .t2 .given .1, ← c .before .before .before .before .body .ensures, ← c .before .before .before .record-length2 .ensures) (c .before .before .event .ensures .0, c .before .before .event .ensures .1, refl)
+returns-6 c = λ h g. rw (← c .before .before .before .before .before .before .before .before .before .before .before .take .ensures, c .before .before .before .before .before .before .before .before .before .t2 .given .1) (took (rw (← c .before .before .before .before .body .ensures, ← c .before .before .before .record-length2 .ensures) (c .before .before .event .ensures .0, c .before .before .event .ensures .1)) refl)
 
 pub turn-spec : {M : Type 1} → statement M
 turn-spec =
     tie.close
     (tie.spec
     finish-requires
-    same-length
     returns
     finish-requires-2
-    same-length-2
     returns-2
     part-take-start
     part-take-end
@@ -142,14 +135,14 @@ turn-spec =
     body-requires
     record-length-requires-2
     event-requires
+    same-length
+    same-length-2
+    returns-3
     same-length-3
     same-length-4
-    returns-3
-    same-length-5
-    same-length-6
     returns-4
-    same-length-7
+    same-length-5
     returns-5
-    same-length-8
-    same-length-9
+    same-length-6
+    same-length-7
     returns-6)

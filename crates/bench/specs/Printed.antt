@@ -1,0 +1,89 @@
+-- What the program prints for an input, from its first octet to its last: the one definition of it. 01, "The bench program".
+-- proofs/Whole.antt proves `whole-output`: however the input comes in pieces, this is what the program writes.
+-- Assumes nothing.
+use Prim.Native.Nat.{ℕ, zero, suc, _+_}
+use mathlib.Core.Bool.{Bool, true, false}
+use mathlib.Core.List.{List, [], _∷_, _++_}
+use lib.ListN.{replicate}
+use Rattle.octets.specs.Field.{field}
+use Rattle.octets.specs.Pick.{pick}
+use Rattle.peer.specs.Record.{freeOf}
+use Rattle.peer.specs.declared.record.Record.{Record}
+use Rattle.peer.specs.declared.settings.Settings.{Settings}
+use Rattle.table.specs.Boundary.{noSettings}
+use Rattle.table.specs.Step.{stepOf, stepIn}
+use Rattle.table.specs.declared.rules.event.Event.{Event}
+use Rattle.bench.specs.Input.{bodyOf, takenOf}
+use Rattle.bench.specs.Line.{lineOf, stopLine}
+use Rattle.bench.specs.Output.{Line, short, said}
+use Rattle.bench.specs.Play.{zeros, numberAfter}
+use Rattle.bench.specs.Trace.{traceLines}
+use Rattle.bench.specs.declared.input.Taken.{Taken}
+use Rattle.bench.specs.declared.input.Taken.the-variants.{Cut, Fault, First, Next}
+
+-- What is printed of an event: its lines, by its number, the settings, the table before it, the event, and the octets beside it.
+abbrev pub Shown : Type 0
+Shown = ℕ → Settings → List Record → Event → List ℕ → List Line
+
+-- "one line an event"; "the output scratch is 256 zero bytes for each event". Behind it, where it is traced, the lines of the trace.
+unfoldable pub shownBy : Bool → Shown
+shownBy trace n s t e xs =
+    short (lineOf n (stepOf s t e xs 256 .answer)) ∷
+    pick trace (traceLines (stepOf s t e xs 256 .answer) (stepIn s t e xs zeros) (stepOf s t e xs 256 .table)) []
+
+-- Between two records: the settings, the table, the number of the last event; and whether no record came yet.
+pub record Standing : Type 0 where
+  pub settings : Settings
+  pub table : List Record
+  pub number : ℕ
+  pub first : Bool
+
+-- "The table starts empty"; "event number from 1".
+abbrev pub atStart : Standing
+atStart = record { settings = noSettings; table = replicate 32 freeOf; number = 0; first = true }
+
+abbrev pub begunWith : Standing → Settings → Standing
+begunWith s t = record { settings = t; table = s .table; number = s .number; first = false }
+
+abbrev pub playedOn : Standing → Event → List ℕ → Standing
+playedOn s e xs =
+    record {
+      settings = s .settings;
+      table = stepOf (s .settings) (s .table) e xs 256 .table;
+      number = numberAfter (s .number);
+      first = s .first;
+    }
+
+-- By what stands at the front: "A fault in mark, kind or length, or a cut record" is one case, settings and an event are the others.
+abbrev pub onTaken : {A : Type 0} → Taken → A → (Settings → A) → (Event → A) → A
+onTaken Cut z f g = z
+onTaken Fault z f g = z
+onTaken (First t) z f g = f t
+onTaken (Next e) z f g = g e
+
+-- The octets of a record behind its first: the rest of the head, and the body.
+abbrev pub behindFirst : List ℕ → ℕ
+behindFirst xs = field 2 3 xs + 4
+
+-- What is printed from there on, with k octets of the record before still to pass. A fault or a cut record "prints `stop` and ends; empty input
+-- prints nothing".
+unfoldable pub printedFrom : Shown → ℕ → Standing → List ℕ → List ℕ
+printedFrom w (suc k) s [] = []
+printedFrom w (suc k) s (x ∷ xs) = printedFrom w k s xs
+printedFrom w zero s [] = []
+printedFrom w zero s (x ∷ xs) =
+    onTaken (takenOf (x ∷ xs) (s .first)) stopLine
+    (λ t. printedFrom w (behindFirst (x ∷ xs)) (begunWith s t) xs)
+    (λ e.
+    said (w (numberAfter (s .number)) (s .settings) (s .table) e (bodyOf (x ∷ xs)))
+    ++ printedFrom w (behindFirst (x ∷ xs)) (playedOn s e (bodyOf (x ∷ xs))) xs)
+
+-- The output of `bench`, and of `bench trace`.
+abbrev pub outputOf : Shown → List ℕ → List ℕ
+outputOf w xs = printedFrom w 0 atStart xs
+
+abbrev pub benchOutput : List ℕ → List ℕ
+benchOutput xs = outputOf (shownBy false) xs
+
+abbrev pub traceOutput : List ℕ → List ℕ
+traceOutput xs = outputOf (shownBy true) xs
