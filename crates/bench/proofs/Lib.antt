@@ -8,12 +8,15 @@ pub mod Moves
 pub mod Outputs
 pub mod Pending
 pub mod PendingExample
+pub mod PlaysPrinted
 pub mod Prints
 pub mod Puts
 pub mod Reached
 pub mod Refills
 pub mod StepLengths
+pub mod RowReads
 pub mod TableLines
+pub mod TableTrip
 pub mod TraceLines
 pub mod Whole
 pub mod WholeExample

@@ -138,17 +138,17 @@ trace-within a s t h g =
     record { fits = w .fits; asks = omega (arith, w .asks) }
 
 -- An event of a table of 32 records.
-module _ (r : Run) (e : Event) (xs : List ℕ) (h : length (scratchOf r e xs) ≡ 256) (g : length (playedOf r e xs .table) ≡ 32) where
-  pub event-within : Within 6848 (eventLines r e xs)
+module _ (r : Run) (t : List Record) (e : Event) (xs : List ℕ) (h : length (scratchOf r t e xs) ≡ 256) (g : length (playedOf r t e xs .table) ≡ 32) where
+  pub event-within : Within 6848 (eventLines r t e xs)
   unfolding eventLines shownBy
   event-within =
-      both {m = 64} (one-line _ (line-length (numberAfter (r .number)) (playedOf r e xs .answer)) (omega arith))
-      (pick-by (Within 6784) (r .trace) (λ b. trace-within (playedOf r e xs .answer) (scratchOf r e xs) (playedOf r e xs .table) h g) (λ b. no-line))
+      both {m = 64} (one-line _ (line-length (numberAfter (r .number)) (playedOf r t e xs .answer)) (omega arith))
+      (pick-by (Within 6784) (r .trace) (λ b. trace-within (playedOf r t e xs .answer) (scratchOf r t e xs) (playedOf r t e xs .table) h g) (λ b. no-line))
 
   -- What an event adds to the octets to be written out: its lines, whole.
-  pub event-pending : (l : List ℕ) → r .out + 6848 ≤ length l → pending (eventOutput r e xs l) ≡ take (r .out) l ++ said (eventLines r e xs)
+  pub event-pending : (l : List ℕ) → r .out + 6848 ≤ length l → pending (eventOutput r t e xs l) ≡ take (r .out) l ++ said (eventLines r t e xs)
   unfolding eventOutput
-  event-pending l k = let w = event-within in pending-all (eventLines r e xs) (upTo l (r .out)) (w .fits) (omega (arith, w .asks))
+  event-pending l k = let w = event-within in pending-all (eventLines r t e xs) (upTo l (r .out)) (w .fits) (omega (arith, w .asks))
 
 -- The line `stop` behind what is there.
 pub stop-pending : (l : List ℕ) (n : ℕ) → n + 64 ≤ length l → pending (putOf (short stopLine) (upTo l n)) ≡ take n l ++ stopLine

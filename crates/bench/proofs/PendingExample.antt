@@ -33,7 +33,7 @@ use Rattle.bench.specs.declared.run.Run.{Run}
 use Rattle.bench.proofs.Pending.{event-pending}
 
 abbrev told : Run
-told = record { settings = asAp; table = tableOf []; number = 0; at = 0; have = 0; out = 0; first = false; over = false; done = false; trace = true }
+told = record { settings = asAp; number = 0; at = 0; have = 0; out = 0; first = false; over = false; done = false; trace = true }
 
 -- 02:00:00:00:00:0c, with the links 02:00:00:00:00:0d and :0e
 abbrev named : List ℕ
@@ -43,9 +43,9 @@ abbrev device : Record
 device = withLinks (freshOf 0x0c0000000002) (record { one = 0x0d0000000002; two = 0x0e0000000002; three = 0; four = 0 })
 
 record AtWork : Type 0 where
-  scratch : length (scratchOf told Links named) ≡ 256
-  table : length (playedOf told Links named .table) ≡ 32
-  lines : said (eventLines told Links named) ≡ lineOf 1 (playedOf told Links named .answer) ++ placeLine 0 device ++ linksLine 0 device
+  scratch : length (scratchOf told (tableOf []) Links named) ≡ 256
+  table : length (playedOf told (tableOf []) Links named .table) ≡ 32
+  lines : said (eventLines told (tableOf []) Links named) ≡ lineOf 1 (playedOf told (tableOf []) Links named .answer) ++ placeLine 0 device ++ linksLine 0 device
   -- "  links 0 02000000000d 02000000000e"
   text : linksLine 0 device ≡ 32 ∷ 32 ∷ 108 ∷ 105 ∷ 110 ∷ 107 ∷ 115 ∷ 32 ∷ 48 ∷ 32 ∷ 48 ∷ 50 ∷ 48 ∷ 48 ∷ 48 ∷ 48 ∷ 48 ∷ 48 ∷ 48 ∷ 48 ∷ 48 ∷ 100 ∷ 32 ∷ 48 ∷ 50 ∷ 48 ∷ 48 ∷ 48 ∷ 48 ∷ 48 ∷ 48 ∷ 48 ∷ 48 ∷ 48 ∷ 101 ∷ 10 ∷ []
 
@@ -57,5 +57,5 @@ unfolding validOf groupOf linksAt noLinks placeFits freshOf isFree withLinks net
 at-work = record { scratch = refl; table = refl; lines = refl; text = refl }
 
 -- What is pending then: its line, that of its place and that of its links.
-pub links-shown : (l : List ℕ) → 6848 ≤ length l → pending (eventOutput told Links named l) ≡ lineOf 1 (playedOf told Links named .answer) ++ placeLine 0 device ++ linksLine 0 device
-links-shown l h = event-pending told Links named (at-work .scratch) (at-work .table) l h ∙ at-work .lines
+pub links-shown : (l : List ℕ) → 6848 ≤ length l → pending (eventOutput told (tableOf []) Links named l) ≡ lineOf 1 (playedOf told (tableOf []) Links named .answer) ++ placeLine 0 device ++ linksLine 0 device
+links-shown l h = event-pending told (tableOf []) Links named (at-work .scratch) (at-work .table) l h ∙ at-work .lines

@@ -6,12 +6,18 @@ use mathlib.Core.Bool.{Bool, true, false}
 use mathlib.Core.List.{List, [], _++_, append-assoc, append-nil}
 use native.Mathlib.Omega.{arith}
 use lib.Dec.{eqb}
-use lib.ListN.{length, take, drop}
+use lib.ListN.{length, replicate, take, drop}
 use borrow.Author.Tests.{eq-eqb, eqb-true, ne-eqb}
 use Rattle.octets.proofs.Branch.{by-bool}
+use Rattle.octets.specs.Links.{linksAt}
 use Rattle.octets.specs.Pick.{pick}
+use Rattle.octets.specs.Row.{rowAt}
 use Rattle.peer.proofs.Fits.{clash}
+use Rattle.peer.specs.Query.{queryOf}
+use Rattle.peer.specs.Record.{exchangeOf, freeOf}
 use Rattle.peer.specs.declared.settings.Settings.{Settings}
+use Rattle.table.proofs.Octets.RowLaws.{length-records}
+use Rattle.table.specs.Rows.{isTable, numberedAt, queryNumbered, recordOf, recordsAt, recordsOf, rowNumbered}
 use Rattle.table.specs.declared.rules.event.Event.{Event}
 use Rattle.bench.specs.Input.{bodyOf, sizeOf, takenOf}
 use Rattle.bench.specs.Line.{stopLine}
@@ -29,30 +35,31 @@ use Rattle.bench.proofs.MoreOctets.{cut-short, record-whole}
 use Rattle.bench.proofs.Pending.{event-pending, stop-pending}
 use Rattle.bench.proofs.Prints.{print-cut, print-fault, print-first, print-next}
 use Rattle.bench.proofs.StepLengths.{scratch-same, step-same}
+use Rattle.bench.proofs.TableTrip.{Trip, trip}
 
 -- what the definitions know of a run
-abbrev pub standing : Run → Standing
-standing r = record { settings = r .settings; table = r .table; number = r .number; first = r .first }
+abbrev pub standing : List ℕ → Run → Standing
+standing ts r = record { settings = r .settings; table = recordsOf ts; number = r .number; first = r .first }
 
 -- what is printed from there on, where `more` follows the octets at hand: nothing once the run is done
-abbrev pub toCome : Bool → Run → List ℕ → List ℕ → List ℕ
-toCome trace r held more = pick (r .done) [] (printedFrom (shownBy trace) 0 (standing r) (held ++ more))
+abbrev pub toCome : Bool → List ℕ → Run → List ℕ → List ℕ → List ℕ
+toCome trace ts r held more = pick (r .done) [] (printedFrom (shownBy trace) 0 (standing ts r) (held ++ more))
 
 -- What each round keeps. `law`: what was written, what is pending and what is still to come is what the whole input prints.
-pub record Kept (trace : Bool) (xs o : List ℕ) (r : Run) (read wrote : List ℕ) : Type 0 where
+pub record Kept (trace : Bool) (ts xs o : List ℕ) (r : Run) (read wrote : List ℕ) : Type 0 where
   pub mode : r .trace ≡ trace
   pub places : r .at ≤ r .have
   pub inside : r .have ≤ length xs
-  pub table : length (r .table) ≡ 32
+  pub table : isTable ts ≡ true
   pub law : (more : List ℕ) → (r .over ≡ true → more ≡ []) →
-      outputOf (shownBy trace) (read ++ more) ≡ wrote ++ (take (r .out) o ++ toCome trace r (ahead xs r) more)
+      outputOf (shownBy trace) (read ++ more) ≡ wrote ++ (take (r .out) o ++ toCome trace ts r (ahead xs r) more)
 
 -- the same where a round goes on from r to q, by what it adds to the lines and what it takes from what is to come
-on-to : {trace : Bool} {xs ys o k : List ℕ} {r q : Run} {read wrote : List ℕ} → Kept trace xs o r read wrote → q .trace ≡ r .trace → q .over ≡ r .over →
-    q .at ≤ q .have → q .have ≤ length ys → length (q .table) ≡ 32 →
-    ((more : List ℕ) → (r .over ≡ true → more ≡ []) → take (r .out) o ++ toCome trace r (ahead xs r) more ≡ take (q .out) k ++ toCome trace q (ahead ys q) more) →
-    Kept trace ys k q read wrote
-on-to {trace} {xs} {ys} {o} {k} {r} {q} {read} {wrote} p m v a b t same =
+on-to : {trace : Bool} {ts us xs ys o k : List ℕ} {r q : Run} {read wrote : List ℕ} → Kept trace ts xs o r read wrote → q .trace ≡ r .trace → q .over ≡ r .over →
+    q .at ≤ q .have → q .have ≤ length ys → isTable us ≡ true →
+    ((more : List ℕ) → (r .over ≡ true → more ≡ []) → take (r .out) o ++ toCome trace ts r (ahead xs r) more ≡ take (q .out) k ++ toCome trace us q (ahead ys q) more) →
+    Kept trace us ys k q read wrote
+on-to {trace} {ts} {us} {xs} {ys} {o} {k} {r} {q} {read} {wrote} p m v a b t same =
     record {
       mode = m ∙ p .mode;
       places = a;
@@ -61,15 +68,24 @@ on-to {trace} {xs} {ys} {o} {k} {r} {q} {read} {wrote} p m v a b t same =
       law = λ more h. p .law more (λ e. h (v ∙ e)) ∙ ap (λ (l : List ℕ). wrote ++ l) (same more (λ e. h (v ∙ e)));
     }
 
-started : (trace : Bool) (xs o : List ℕ) → Kept trace xs o (startOf trace) [] []
-unfolding startOf
-started trace xs o = record { mode = refl; places = omega arith; inside = omega arith; table = refl; law = λ more h. refl }
+-- the empty table is one, and its records are free
+empty-table : isTable (replicate 1536 0) ≡ true
+unfolding isTable numberedAt rowNumbered queryNumbered rowAt
+empty-table = refl
 
-module _ {trace : Bool} {xs o : List ℕ} {r : Run} {read wrote : List ℕ} (p : Kept trace xs o r read wrote) (d : r .done ≡ false) (room : r .out + 8192 ≤ length o) where
+empty-records : recordsOf (replicate 1536 0) ≡ replicate 32 freeOf
+unfolding recordsAt recordOf rowAt exchangeOf queryOf linksAt
+empty-records = refl
+
+started : (trace : Bool) (xs o : List ℕ) → Kept trace (replicate 1536 0) xs o (startOf trace) [] []
+unfolding startOf
+started trace xs o = record { mode = refl; places = omega arith; inside = omega arith; table = empty-table; law = λ more h. rw empty-records refl }
+
+module _ {trace : Bool} {ts xs o : List ℕ} {r : Run} {read wrote : List ℕ} (p : Kept trace ts xs o r read wrote) (d : r .done ≡ false) (room : r .out + 8192 ≤ length o) where
   abbrev w : Shown
   w = shownBy trace
 
-  coming : (more : List ℕ) → toCome trace r (ahead xs r) more ≡ printedFrom w 0 (standing r) (ahead xs r ++ more)
+  coming : (more : List ℕ) → toCome trace ts r (ahead xs r) more ≡ printedFrom w 0 (standing ts r) (ahead xs r ++ more)
   coming more = rw d
 
   -- the end of the input
@@ -87,21 +103,21 @@ module _ {trace : Bool} {xs o : List ℕ} {r : Run} {read wrote : List ℕ} (p :
       (λ e. eq-eqb (length (ahead xs r)) 0 (omega (arith, l, eqb-true (r .at) (r .have) e)) ∙ sym e)
       (λ e. ne-eqb (length (ahead xs r)) 0 (λ z. clash (eq-eqb (r .at) (r .have) (omega (arith, l, z, p .places))) e) ∙ sym e)
 
-  ended : takenOf (ahead xs r) (r .first) ≡ Cut → r .over ≡ true → Kept trace xs (endOutput r o .octets) (doneOf r (endOutput r o .filled)) read wrote
+  ended : takenOf (ahead xs r) (r .first) ≡ Cut → r .over ≡ true → Kept trace ts xs (endOutput r o .octets) (doneOf r (endOutput r o .filled)) read wrote
   unfolding doneOf
   ended t v =
       on-to p refl refl (p .places) (p .inside) (p .table)
       (λ more h.
       let e : more ≡ [] = h v in
-      ap (λ (l : List ℕ). take (r .out) o ++ l) (coming more ∙ rw (e, append-nil (ahead xs r)) (print-cut w (standing r) (ahead xs r) t ∙ ap (λ (b : Bool). pick b [] stopLine) none-left))
+      ap (λ (l : List ℕ). take (r .out) o ++ l) (coming more ∙ rw (e, append-nil (ahead xs r)) (print-cut w (standing ts r) (ahead xs r) t ∙ ap (λ (b : Bool). pick b [] stopLine) none-left))
       ∙ sym (append-nil (pending (endOutput r o)) ∙ end-pending))
 
-  stopped : takenOf (ahead xs r) (r .first) ≡ Fault → Kept trace xs (stopOutput r o .octets) (doneOf r (stopOutput r o .filled)) read wrote
+  stopped : takenOf (ahead xs r) (r .first) ≡ Fault → Kept trace ts xs (stopOutput r o .octets) (doneOf r (stopOutput r o .filled)) read wrote
   unfolding doneOf
   stopped t =
       on-to p refl refl (p .places) (p .inside) (p .table)
       (λ more h.
-      ap (λ (l : List ℕ). take (r .out) o ++ l) (coming more ∙ print-fault w (standing r) (ahead xs r) more t)
+      ap (λ (l : List ℕ). take (r .out) o ++ l) (coming more ∙ print-fault w (standing ts r) (ahead xs r) more t)
       ∙ sym (append-nil (pending (stopOutput r o)) ∙ stop-pending o (r .out) (omega arith)))
 
   -- a record is passed
@@ -115,43 +131,46 @@ module _ {trace : Bool} {xs o : List ℕ} {r : Run} {read wrote : List ℕ} (p :
     passed : aheadOf next (r .have) xs ≡ drop size (ahead xs r)
     passed = ahead-behind (r .at) (r .have) xs (p .places) (p .inside) size z
 
-  begun : (s : Settings) → takenOf (ahead xs r) (r .first) ≡ First s → Kept trace xs o (begunOf r s (sizeOf (ahead xs r))) read wrote
+  begun : (s : Settings) → takenOf (ahead xs r) (r .first) ≡ First s → Kept trace ts xs o (begunOf r s (sizeOf (ahead xs r))) read wrote
   unfolding begunOf
   begun s t =
       let z : sizeOf (ahead xs r) ≤ length (ahead xs r) = record-whole (ahead xs r) (r .first) (rw t) in
       on-to p refl refl (next-inside (sizeOf (ahead xs r)) z) (p .inside) (p .table)
       (λ more h.
       ap (λ (l : List ℕ). take (r .out) o ++ l)
-      (coming more ∙ (print-first w (standing r) (ahead xs r) more s t ∙ rw (d, passed (sizeOf (ahead xs r)) z))))
+      (coming more ∙ (print-first w (standing ts r) (ahead xs r) more s t ∙ rw (d, passed (sizeOf (ahead xs r)) z))))
 
-  played : (e : Event) → takenOf (ahead xs r) (r .first) ≡ Next e →
-      Kept trace xs (eventOutput r e (bodyOf (ahead xs r)) o .octets) (eventOf r e (bodyOf (ahead xs r)) (sizeOf (ahead xs r)) o) read wrote
+  played : (e : Event) (us : List ℕ) → takenOf (ahead xs r) (r .first) ≡ Next e → Trip (r .settings) ts e (bodyOf (ahead xs r)) us →
+      Kept trace us xs (eventOutput r (recordsOf ts) e (bodyOf (ahead xs r)) o .octets) (eventOf r (recordsOf ts) e (bodyOf (ahead xs r)) (sizeOf (ahead xs r)) o) read wrote
   unfolding eventOf eventLines said printedFrom eventOutput
-  played e t =
+  played e us t n =
       let z : sizeOf (ahead xs r) ≤ length (ahead xs r) = record-whole (ahead xs r) (r .first) (rw t) in
       let b = bodyOf (ahead xs r) in
-      let long = step-same (r .table) (r .settings) e b 256 ∙ p .table in
-      let lines = event-pending r e b (scratch-same (r .settings) (r .table) (p .table) e b) long o (omega arith) in
-      on-to p refl refl (next-inside (sizeOf (ahead xs r)) z) (p .inside) long
+      let u = recordsOf ts in
+      let long = length-records 32 0 ts in
+      let lines = event-pending r u e b (scratch-same (r .settings) u long e b) (step-same u (r .settings) e b 256 ∙ long) o (omega arith) in
+      on-to p refl refl (next-inside (sizeOf (ahead xs r)) z) (p .inside) (n .table)
       (λ more h.
-      let text = said (w (numberAfter (r .number)) (r .settings) (r .table) e b) in
-      let rest = printedFrom w 0 (playedOn (standing r) e b) (drop (sizeOf (ahead xs r)) (ahead xs r) ++ more) in
-      ap (λ (l : List ℕ). take (r .out) o ++ l) (coming more ∙ print-next w (standing r) (ahead xs r) more e t)
+      let text = said (w (numberAfter (r .number)) (r .settings) u e b) in
+      let rest = printedFrom w 0 (playedOn (standing ts r) e b) (drop (sizeOf (ahead xs r)) (ahead xs r) ++ more) in
+      ap (λ (l : List ℕ). take (r .out) o ++ l) (coming more ∙ print-next w (standing ts r) (ahead xs r) more e t)
       ∙ (sym (append-assoc (take (r .out) o) text rest)
-      ∙ rw (d, passed (sizeOf (ahead xs r)) z, lines, p .mode)))
+      ∙ rw (d, passed (sizeOf (ahead xs r)) z, lines, p .mode, n .records)))
 
-  by-taken : (t : Taken) (k : List ℕ) (q : Run) → takenOf (ahead xs r) (r .first) ≡ t → Took t (ahead xs r) o r k q → Kept trace xs k q read wrote
-  by-taken Cut k q t f = rw (f .1, f .2) (ended t (f .0))
-  by-taken Fault k q t f = rw (f .0, f .1) (stopped t)
-  by-taken (First s) k q t f = rw (f .0, f .1) (begun s t)
-  by-taken (Next e) k q t f = rw (f .0, f .1) (played e t)
+  by-taken : (t : Taken) (us k : List ℕ) (q : Run) → takenOf (ahead xs r) (r .first) ≡ t → Took t (ahead xs r) ts o r us k q → Kept trace us xs k q read wrote
+  by-taken Cut us k q t f = rw (f .0, f .2, f .3) (ended t (f .1))
+  by-taken Fault us k q t f = rw (f .0, f .1, f .2) (stopped t)
+  by-taken (First s) us k q t f = rw (f .0, f .1, f .2) (begun s t)
+  by-taken (Next e) us k q t f =
+      let g = f .1 (p .table) in
+      rw (g .0, g .1) (played e us t (trip (r .settings) ts e (bodyOf (ahead xs r)) us (p .table) (f .2) (f .3) (f .0)))
 
 -- a read
-more-came : {trace : Bool} {xs o ys : List ℕ} {r : Run} {read wrote : List ℕ} (n : ℕ) → Kept trace xs o r read wrote → r .done ≡ false → r .over ≡ false →
+more-came : {trace : Bool} {ts xs o ys : List ℕ} {r : Run} {read wrote : List ℕ} (n : ℕ) → Kept trace ts xs o r read wrote → r .done ≡ false → r .over ≡ false →
     length ys ≡ length xs → take (left xs r) ys ≡ take (left xs r) (shiftedOf (r .at) (r .have) xs) →
-    Kept trace ys o (refilledOf r (length xs) n) (read ++ aheadOf (left xs r) (behindOf (left xs r) n (length xs)) ys) wrote
+    Kept trace ts ys o (refilledOf r (length xs) n) (read ++ aheadOf (left xs r) (behindOf (left xs r) n (length xs)) ys) wrote
 unfolding refilledOf
-more-came {trace} {xs} {o} {ys} {r} {read} {wrote} n p d v e k =
+more-came {trace} {ts} {xs} {o} {ys} {r} {read} {wrote} n p d v e k =
     let piece = aheadOf (left xs r) (behindOf (left xs r) n (length xs)) ys in
     let both = ahead-more (r .at) (r .have) xs (p .places) (p .inside) ys n e k in
     record {
@@ -166,9 +185,9 @@ more-came {trace} {xs} {o} {ys} {r} {read} {wrote} n p d v e k =
     }
 
 -- a write
-lines-went : {trace : Bool} {xs o : List ℕ} {r : Run} {read wrote : List ℕ} → Kept trace xs o r read wrote → Kept trace xs o (flushedOf r (r .done)) read (wrote ++ take (r .out) o)
+lines-went : {trace : Bool} {ts xs o : List ℕ} {r : Run} {read wrote : List ℕ} → Kept trace ts xs o r read wrote → Kept trace ts xs o (flushedOf r (r .done)) read (wrote ++ take (r .out) o)
 unfolding flushedOf
-lines-went {trace} {xs} {o} {r} {read} {wrote} p =
+lines-went {trace} {ts} {xs} {o} {r} {read} {wrote} p =
     record {
       mode = p .mode;
       places = p .places;
@@ -177,22 +196,22 @@ lines-went {trace} {xs} {o} {r} {read} {wrote} p =
       law = λ more h. p .law more h ∙ sym (append-assoc wrote (take (r .out) o) _);
     }
 
-pub kept : {trace : Bool} {xs o : List ℕ} {r : Run} {read wrote : List ℕ} → Ran trace xs o r read wrote → Kept trace xs o r read wrote
+pub kept : {trace : Bool} {ts xs o : List ℕ} {r : Run} {read wrote : List ℕ} → Ran trace ts xs o r read wrote → Kept trace ts xs o r read wrote
 unfolding refilledOf
 kept (start {xs} {o} a b) = started _ xs o
-kept (taken {k = k} {q = q} p d room l f) = by-taken (kept p) d room _ k q refl f
+kept (taken {us = us} {k = k} {q = q} p d room l f) = by-taken (kept p) d room _ us k q refl f
 kept (came n p d t v l e k) = rw e (more-came n (kept p) d v l k)
 kept (went p l) = lines-went (kept p)
 
 -- THE THEOREM. The program is done: what it wrote is what the whole input prints, the octets read and any that it did not read; after the end of
 -- the input there are none. (What it asks for is met: `run_all` keeps to such rounds, proofs/Reached.antt.)
-pub whole-output : {trace : Bool} {xs o : List ℕ} {r : Run} {read wrote : List ℕ} → Ran trace xs o r read wrote → r .done ≡ true →
+pub whole-output : {trace : Bool} {ts xs o : List ℕ} {r : Run} {read wrote : List ℕ} → Ran trace ts xs o r read wrote → r .done ≡ true →
     (rest : List ℕ) → (r .over ≡ true → rest ≡ []) → wrote ++ take (r .out) o ≡ outputOf (shownBy trace) (read ++ rest)
-whole-output {trace} {xs} {o} {r} {read} {wrote} p d rest h =
+whole-output {trace} {ts} {xs} {o} {r} {read} {wrote} p d rest h =
     sym (kept p .law rest h ∙ rw d (ap (λ (l : List ℕ). wrote ++ l) (append-nil (take (r .out) o))))
 
 -- At each read at most 4,100 octets of the buffer are in use: so a read that gives none is the end of the input, not a lack of room.
-pub room-to-read : {trace : Bool} {xs o : List ℕ} {r : Run} {read wrote : List ℕ} → Ran trace xs o r read wrote → takenOf (ahead xs r) (r .first) ≡ Cut → left xs r ≤ 4100
+pub room-to-read : {trace : Bool} {ts xs o : List ℕ} {r : Run} {read wrote : List ℕ} → Ran trace ts xs o r read wrote → takenOf (ahead xs r) (r .first) ≡ Cut → left xs r ≤ 4100
 room-to-read {xs = xs} {r = r} p t =
     let k = kept p in
     omega (arith, left-is (r .at) (r .have) xs (k .places) (k .inside), ahead-length (r .at) (r .have) xs (k .places) (k .inside), cut-short (ahead xs r) (r .first) t)

@@ -5,6 +5,7 @@ pub mod Input
 pub mod Play
 pub mod Trace
 pub mod Printed
+pub mod Plays
 pub mod Run
 pub mod Turn
 pub mod Rounds

@@ -5,7 +5,7 @@ use Prim.Native.Nat.{ℕ, _+_, _≤_}
 use mathlib.Core.Bool.{Bool, true, false}
 use mathlib.Core.List.{List, [], _++_}
 use mathlib.Core.Path.{_≡_}
-use lib.ListN.{length, take}
+use lib.ListN.{length, replicate, take}
 use Rattle.bench.specs.Input.{takenOf}
 use Rattle.bench.specs.Run.{aheadOf, flushedOf, leftOf, shiftedOf, startOf}
 use Rattle.bench.specs.Turn.{Took, refilledOf}
@@ -19,18 +19,18 @@ ahead xs r = aheadOf (r .at) (r .have) xs
 abbrev pub left : List ℕ → Run → ℕ
 left xs r = leftOf (r .at) (r .have) (length xs)
 
--- The buffers xs and o and the run r, behind rounds in which `read` came in, in pieces of any size, and `wrote` went out.
-pub data Ran (trace : Bool) : List ℕ → List ℕ → Run → List ℕ → List ℕ → Type 0 where
-  start : {xs o : List ℕ} → length xs ≡ 65536 → length o ≡ 65536 → Ran trace xs o (startOf trace) [] []
+-- The table's octets ts, the buffers xs and o and the run r, behind rounds in which `read` came in, in pieces of any size, and `wrote` went out.
+pub data Ran (trace : Bool) : List ℕ → List ℕ → List ℕ → Run → List ℕ → List ℕ → Type 0 where
+  start : {xs o : List ℕ} → length xs ≡ 65536 → length o ≡ 65536 → Ran trace (replicate 1536 0) xs o (startOf trace) [] []
   -- one record, or the end of the input
-  taken : {xs o k read wrote : List ℕ} {r q : Run} →
-      Ran trace xs o r read wrote → r .done ≡ false → r .out + 8192 ≤ length o → length k ≡ length o →
-      Took (takenOf (ahead xs r) (r .first)) (ahead xs r) o r k q → Ran trace xs k q read wrote
+  taken : {ts xs o us k read wrote : List ℕ} {r q : Run} →
+      Ran trace ts xs o r read wrote → r .done ≡ false → r .out + 8192 ≤ length o → length k ≡ length o →
+      Took (takenOf (ahead xs r) (r .first)) (ahead xs r) ts o r us k q → Ran trace us xs k q read wrote
   -- a piece of n octets; none is the end of the input
-  came : {xs o ys read wrote : List ℕ} {r q : Run} (n : ℕ) →
-      Ran trace xs o r read wrote → r .done ≡ false → takenOf (ahead xs r) (r .first) ≡ Cut → r .over ≡ false → length ys ≡ length xs →
+  came : {ts xs o ys read wrote : List ℕ} {r q : Run} (n : ℕ) →
+      Ran trace ts xs o r read wrote → r .done ≡ false → takenOf (ahead xs r) (r .first) ≡ Cut → r .over ≡ false → length ys ≡ length xs →
       q ≡ refilledOf r (length xs) n → take (left xs r) ys ≡ take (left xs r) (shiftedOf (r .at) (r .have) xs) →
-      Ran trace ys o q (read ++ aheadOf (left xs r) (q .have) ys) wrote
+      Ran trace ts ys o q (read ++ aheadOf (left xs r) (q .have) ys) wrote
   -- the lines so far
-  went : {xs o read wrote : List ℕ} {r : Run} →
-      Ran trace xs o r read wrote → r .out ≤ length o → Ran trace xs o (flushedOf r (r .done)) read (wrote ++ take (r .out) o)
+  went : {ts xs o read wrote : List ℕ} {r : Run} →
+      Ran trace ts xs o r read wrote → r .out ≤ length o → Ran trace ts xs o (flushedOf r (r .done)) read (wrote ++ take (r .out) o)

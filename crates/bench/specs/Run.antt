@@ -4,9 +4,9 @@ use Prim.Native.Nat.{ℕ, _+_, _-_}
 use mathlib.Core.Bool.{Bool, true, false, _&&_}
 use mathlib.Core.List.{List, _++_}
 use lib.Dec.{eqb, leb}
-use lib.ListN.{length, take, drop, replicate}
+use lib.ListN.{length, take, drop}
 use Rattle.octets.specs.Pick.{pick}
-use Rattle.peer.specs.Record.{freeOf}
+use Rattle.peer.specs.declared.record.Record.{Record}
 use Rattle.peer.specs.declared.settings.Settings.{Settings}
 use Rattle.table.specs.Step.{stepOf, stepIn}
 use Rattle.table.specs.declared.rules.answer.Stepped.{Stepped}
@@ -17,12 +17,11 @@ use Rattle.bench.specs.Play.{zeros, numberAfter}
 use Rattle.bench.specs.Printed.{shownBy}
 use Rattle.bench.specs.declared.run.Run.{Run}
 
--- "The table starts empty": 32 free records; no event yet, both buffers empty.
+-- No event yet, both buffers empty.
 unfoldable pub startOf : Bool → Run
 startOf trace =
     record {
       settings = record { own = 0; network = 0; authentication = 0; association = 0; role = 0; rsna = 0; edition = 0; protection = 0; retry = 0; maximum = 0 };
-      table = replicate 32 freeOf;
       number = 0;
       at = 0;
       have = 0;
@@ -42,7 +41,6 @@ unfoldable pub begunOf : Run → Settings → ℕ → Run
 begunOf r s size =
     record {
       settings = s;
-      table = r .table;
       number = r .number;
       at = behindOf (r .at) size (r .have);
       have = r .have;
@@ -53,31 +51,30 @@ begunOf r s size =
       trace = r .trace;
     }
 
--- An event, played: the step of the table, lent 256 octets. "the output scratch is 256 zero bytes for each event"
-abbrev pub playedOf : Run → Event → List ℕ → Stepped
-playedOf r e frame = stepOf (r .settings) (r .table) e frame 256
+-- An event, played on the records t: the step of the table, lent 256 octets. "the output scratch is 256 zero bytes for each event"
+abbrev pub playedOf : Run → List Record → Event → List ℕ → Stepped
+playedOf r t e frame = stepOf (r .settings) t e frame 256
 
-abbrev pub scratchOf : Run → Event → List ℕ → List ℕ
-scratchOf r e frame = stepIn (r .settings) (r .table) e frame zeros
+abbrev pub scratchOf : Run → List Record → Event → List ℕ → List ℕ
+scratchOf r t e frame = stepIn (r .settings) t e frame zeros
 
--- The lines of an event (Printed.antt), which has the next number.
-unfoldable pub eventLines : Run → Event → List ℕ → List Line
-eventLines r e frame = shownBy (r .trace) (numberAfter (r .number)) (r .settings) (r .table) e frame
+-- The lines of an event (Printed.antt), which has the next number, on the records t.
+unfoldable pub eventLines : Run → List Record → Event → List ℕ → List Line
+eventLines r t e frame = shownBy (r .trace) (numberAfter (r .number)) (r .settings) t e frame
 
 -- The output buffer l after it: its lines behind those that are there.
-unfoldable pub eventOutput : Run → Event → List ℕ → List ℕ → Output
-eventOutput r e frame l = putAll (eventLines r e frame) (upTo l (r .out))
+unfoldable pub eventOutput : Run → List Record → Event → List ℕ → List ℕ → Output
+eventOutput r t e frame l = putAll (eventLines r t e frame) (upTo l (r .out))
 
--- The run after it: the new table, the next number, `size` octets of input passed, the output as far as it is filled.
-unfoldable pub eventOf : Run → Event → List ℕ → ℕ → List ℕ → Run
-eventOf r e frame size l =
+-- The run after it: the next number, `size` octets of input passed, the output as far as it is filled.
+unfoldable pub eventOf : Run → List Record → Event → List ℕ → ℕ → List ℕ → Run
+eventOf r t e frame size l =
     record {
       settings = r .settings;
-      table = playedOf r e frame .table;
       number = numberAfter (r .number);
       at = behindOf (r .at) size (r .have);
       have = r .have;
-      out = eventOutput r e frame l .filled;
+      out = eventOutput r t e frame l .filled;
       first = r .first;
       over = r .over;
       done = r .done;
@@ -89,7 +86,6 @@ unfoldable pub flushedOf : Run → Bool → Run
 flushedOf r done =
     record {
       settings = r .settings;
-      table = r .table;
       number = r .number;
       at = r .at;
       have = r .have;
@@ -105,7 +101,6 @@ unfoldable pub doneOf : Run → ℕ → Run
 doneOf r n =
     record {
       settings = r .settings;
-      table = r .table;
       number = r .number;
       at = r .at;
       have = r .have;

@@ -1,13 +1,20 @@
 // One event, played with the records lent: the other of the two ways to hold a table.
-use crate::play::Played;
 use peer::record::Record;
 use peer::settings::Settings;
+use table::rules::answer::Answer;
 use table::rules::answer::Stepped;
 use table::rules::event::Event;
 ghost use mathlib.Core.Path.{_≡_};
 ghost use lib.ListN.{length};
 ghost use Rattle.table.specs.Step.{stepOf, stepIn};
 ghost use Rattle.bench.specs.Play.{zeros};
+
+// The table after an event, its answer, and the scratch.
+pub struct Played {
+    pub table: [Record; 32],
+    pub answer: Answer,
+    pub scratch: [u8; 256],
+}
 
 // Lends a table of its own. It makes the only reference to an array of records, so its proof is a walk by hand, and it does nothing else.
 fn lend(s: Settings, t: [Record; 32], e: Event, frame: &[u8], out: &mut [u8]) -> Stepped
@@ -18,7 +25,7 @@ fn lend(s: Settings, t: [Record; 32], e: Event, frame: &[u8], out: &mut [u8]) ->
     Stepped { table, answer }
 }
 
-// The same as `play`, with a scratch of 256 zero octets.
+// The same with a scratch of 256 zero octets.
 pub fn lent_play(s: Settings, t: [Record; 32], e: Event, frame: &[u8]) -> Played
     ensures { λ r. ⌜ (r .table ≡ stepOf s t e (now (frame .entry)) 256 .table) × (r .answer ≡ stepOf s t e (now (frame .entry)) 256 .answer) × (r .scratch ≡ stepIn s t e (now (frame .entry)) zeros) ⌝ }
 {

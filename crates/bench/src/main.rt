@@ -2,7 +2,7 @@
 mod input;
 mod lent;
 mod line;
-mod play;
+mod rows;
 mod run;
 mod show;
 mod text;
@@ -15,6 +15,8 @@ ghost use Rattle.bench.specs.Text.{isTrace};
 
 // A proved loop has to end, and nothing says that an input does: so the turns are counted down from a number that no run uses up.
 fn run_all(trace: bool) {
+    // The table, empty: every octet zero.
+    let mut table = [0u8; 1536];
     let mut input = [0u8; 65536];
     let mut output = [0u8; 65536];
     let mut r = Run::new(trace);
@@ -23,7 +25,7 @@ fn run_all(trace: bool) {
         if r.done {
             return;
         }
-        r = round(&mut input, &mut output, r);
+        r = round(&mut table, &mut input, &mut output, r);
         turns -= 1;
     }
 }

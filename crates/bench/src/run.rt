@@ -7,29 +7,32 @@ use crate::input::take;
 use crate::lent::lent_play;
 use crate::line::write_line;
 use crate::line::write_stop;
-use crate::play::Played;
-use crate::play::play;
+use crate::rows::play;
+use crate::rows::records_in;
 use crate::show::traced;
 use crate::text::has_room;
 use libc::STDIN_FILENO;
 use libc::STDOUT_FILENO;
-use peer::record::Record;
 use peer::settings::Settings;
 use table::rules::event::Event;
 ghost use mathlib.Core.Path.{_≡_};
-ghost use lib.ListN.{length};
-ghost use Rattle.peer.specs.Record.{freeOf};
-ghost use Rattle.table.specs.Step.{stepOf, stepIn};
+ghost use Prim.Native.Nat.{ℕ};
+ghost use mathlib.Core.Bool.{true};
+ghost use mathlib.Core.List.{List};
+ghost use Rattle.table.specs.Host.{hostAnswer, hostTable};
+ghost use Rattle.table.specs.Rows.{isTable, recordsOf};
+ghost use Rattle.bench.specs.Line.{lineOf};
+ghost use Rattle.bench.specs.Output.{putAll, putOf, short, upTo};
 ghost use Rattle.bench.specs.Play.{zeros, numberAfter};
-ghost use Rattle.bench.specs.Run.{startOf, behindOf, begunOf, doneOf, eventOf, eventOutput, stopOutput};
-ghost use Rattle.bench.specs.Turn.{Flushed, Refilled, Rounded, Turned, TurnOf};
+ghost use Rattle.bench.specs.Run.{startOf, behindOf, begunOf, doneOf, eventOf, eventOutput, playedOf, scratchOf, stopOutput};
+ghost use Rattle.bench.specs.Trace.{traceLines};
+ghost use Rattle.bench.specs.Turn.{Flushed, Made, Refilled, Rounded, Turned, TurnOf};
 ghost use Rattle.bench.specs.declared.input.Taken.the-variants.{Cut};
 
 // Where a run stands. Of the input buffer the octets from `at` to `have` are still to be taken; of the output buffer the first `out` are
 // lines still to be written.
 pub struct Run {
     pub settings: Settings,
-    pub table: [Record; 32],
     pub number: u64,
     pub at: usize,
     pub have: usize,
@@ -40,13 +43,6 @@ pub struct Run {
     pub over: bool,
     pub done: bool,
     pub trace: bool,
-}
-
-// A place of the table before any event.
-fn vacant() -> Record
-    ensures { λ p. ⌜ p ≡ freeOf ⌝ }
-{
-    Record::free()
 }
 
 impl Run {
@@ -66,7 +62,6 @@ impl Run {
                 retry: 0,
                 maximum: 0,
             },
-            table: [vacant(); 32],
             number: 0,
             at: 0,
             have: 0,
@@ -142,7 +137,7 @@ fn refill(input: &mut [u8], r: Run) -> Run
 
 // A record that is not there whole: more is read, unless the input came to its end.
 fn cut(input: &mut [u8], output: &mut [u8], r: Run) -> Run
-    ensures { λ q. ⌜ Turned Cut (now (input .entry)) (now (output .entry)) r (now (input .exit)) (now (output .exit)) q ⌝ }
+    ensures { λ q. ⌜ ((ts : List ℕ) → Turned Cut ts (now (input .entry)) (now (output .entry)) r ts (now (input .exit)) (now (output .exit)) q) ⌝ }
 {
     if r.over {
         if r.at == r.have {
@@ -173,43 +168,53 @@ fn counted(n: u64) -> u64
     if n == u64::MAX { n } else { n + 1 }
 }
 
-// An event, played: by value, or under a trace with the records lent.
-fn played(trace: bool, s: Settings, t: [Record; 32], e: Event, frame: &[u8]) -> Played
-    ensures { λ p. ⌜ (p .table ≡ stepOf s t e (now (frame .entry)) 256 .table) × (p .answer ≡ stepOf s t e (now (frame .entry)) 256 .answer) × (p .scratch ≡ stepIn s t e (now (frame .entry)) zeros) ⌝ }
+// The line of an event, played in place; gives where the next line goes.
+fn plain(table: &mut [u8], output: &mut [u8], r: Run, number: u64, e: Event, frame: &[u8]) -> usize
+    ensures { λ n. ⌜ (now (table .exit) ≡ hostTable (now (table .entry)) (r .settings) e (now (frame .entry)) zeros) × (upTo (now (output .exit)) n ≡ putOf (short (lineOf number (hostAnswer (now (table .entry)) (r .settings) e (now (frame .entry)) zeros))) (upTo (now (output .entry)) (r .out))) ⌝ }
 {
-    if trace {
-        return lent_play(s, t, e, frame);
-    }
-    play(s, t, e, frame)
+    let answer = play(table, r.settings, e, frame);
+    write_line(output, r.out, number, answer)
 }
 
-// An event was taken: it is played, and its line goes to the output. The record has `size` octets, its body is `frame`.
-fn event(output: &mut [u8], r: Run, e: Event, frame: &[u8], size: usize) -> Run
-    ensures { λ q. ⌜ (q ≡ eventOf r e (now (frame .entry)) size (now (output .entry))) × (now (output .exit) ≡ eventOutput r e (now (frame .entry)) (now (output .entry)) .octets) ⌝ }
+// The same, with what a trace shows behind it. The lines come from the records lent, the table from the octets: two ways to hold it.
+fn traced_event(
+    table: &mut [u8],
+    output: &mut [u8],
+    r: Run,
+    number: u64,
+    e: Event,
+    frame: &[u8],
+) -> usize
+    ensures { λ n. ⌜ (now (table .exit) ≡ hostTable (now (table .entry)) (r .settings) e (now (frame .entry)) zeros) × (upTo (now (output .exit)) n ≡ putAll (traceLines (playedOf r (recordsOf (now (table .entry))) e (now (frame .entry)) .answer) (scratchOf r (recordsOf (now (table .entry))) e (now (frame .entry))) (playedOf r (recordsOf (now (table .entry))) e (now (frame .entry)) .table)) (putOf (short (lineOf number (playedOf r (recordsOf (now (table .entry))) e (now (frame .entry)) .answer))) (upTo (now (output .entry)) (r .out)))) ⌝ }
 {
-    let s = r.settings;
-    let t = r.table;
-    let p = played(r.trace, s, t, e, frame);
-    let number = counted(r.number);
+    let p = lent_play(r.settings, records_in(&*table), e, frame);
+    play(table, r.settings, e, frame);
     let answer = p.answer;
-    let table = p.table;
+    let scratch = p.scratch;
+    let after = p.table;
+    let at = write_line(&mut *output, r.out, number, answer);
+    traced(output, at, answer, scratch, after)
+}
+
+// An event was taken: it is played, and its lines go to the output. The record has `size` octets, its body is `frame`.
+fn event(table: &mut [u8], output: &mut [u8], r: Run, e: Event, frame: &[u8], size: usize) -> Run
+    ensures { λ q. ⌜ (now (table .exit) ≡ hostTable (now (table .entry)) (r .settings) e (now (frame .entry)) zeros) × (isTable (now (table .entry)) ≡ true → (q ≡ eventOf r (recordsOf (now (table .entry))) e (now (frame .entry)) size (now (output .entry))) × (now (output .exit) ≡ eventOutput r (recordsOf (now (table .entry))) e (now (frame .entry)) (now (output .entry)) .octets)) × (Made (now (table .entry))) × (Made (now (frame .entry))) ⌝ }
+{
+    let number = counted(r.number);
     let mut next = r;
-    next.table = table;
     next.number = number;
     next.at = behind(r.at, size, r.have);
-    let at = write_line(&mut *output, r.out, number, answer);
     if r.trace {
-        let scratch = p.scratch;
-        next.out = traced(output, at, answer, scratch, table);
+        next.out = traced_event(table, output, r, number, e, frame);
         return next;
     }
-    next.out = at;
+    next.out = plain(table, output, r, number, e, frame);
     next
 }
 
 // One record, or more input.
-pub fn turn(input: &mut [u8], output: &mut [u8], r: Run) -> Run
-    ensures { λ q. ⌜ TurnOf (now (input .entry)) (now (output .entry)) r (now (input .exit)) (now (output .exit)) q ⌝ }
+pub fn turn(table: &mut [u8], input: &mut [u8], output: &mut [u8], r: Run) -> Run
+    ensures { λ q. ⌜ TurnOf (now (table .entry)) (now (input .entry)) (now (output .entry)) r (now (table .exit)) (now (input .exit)) (now (output .exit)) q ⌝ }
 {
     let at = r.at;
     let have = r.have;
@@ -226,16 +231,16 @@ pub fn turn(input: &mut [u8], output: &mut [u8], r: Run) -> Run
         Taken::First(s) => begin(r, s, record_length(&input[at..have])),
         Taken::Next(e) => {
             let s = &input[at..have];
-            event(output, r, e, body(s), record_length(s))
+            event(table, output, r, e, body(s), record_length(s))
         }
     }
 }
 
 // The same; and where that is the end, or little room is left, the lines are written out. This alone writes, and `refill` alone reads.
-pub fn round(input: &mut [u8], output: &mut [u8], r: Run) -> Run
-    ensures { λ q. ⌜ Rounded (now (input .entry)) (now (output .entry)) r (now (input .exit)) (now (output .exit)) q ⌝ }
+pub fn round(table: &mut [u8], input: &mut [u8], output: &mut [u8], r: Run) -> Run
+    ensures { λ q. ⌜ Rounded (now (table .entry)) (now (input .entry)) (now (output .entry)) r (now (table .exit)) (now (input .exit)) (now (output .exit)) q ⌝ }
 {
-    let next = turn(input, output, r);
+    let next = turn(table, input, output, r);
     if next.done {
         return flush(output, next);
     }

@@ -8,16 +8,16 @@ use Rattle.bench.proofs.run_all.Statement.{statement}
 use Rattle.bench.proofs.run_all.Tie as tie
 
 abbrev Inv-loop : tie.InvT-loop
-Inv-loop trace input₀ output₀ r₀ turns₀ input output r turns = (length input ≡ 65536) × (length output ≡ 65536) × (Reached trace input output r)
+Inv-loop trace table₀ input₀ output₀ r₀ turns₀ table input output r turns = (length table ≡ 1536) × (length input ≡ 65536) × (length output ≡ 65536) × (Reached trace table input output r)
 
 abbrev μ-loop : tie.MeasureT-loop
-μ-loop trace input₀ output₀ r₀ turns₀ input output r turns = turns
+μ-loop trace table₀ input₀ output₀ r₀ turns₀ table input output r turns = turns
 
 new-requires : tie.Need-new-requires Inv-loop μ-loop
 new-requires c κs = search needs
 
 loop-holds : tie.Need-loop-holds Inv-loop μ-loop
-loop-holds c = (search needs, search needs, at-first _ _ _ _ refl refl (c .new .ensures))
+loop-holds c = (search needs, search needs, search needs, at-first _ _ _ _ _ refl refl refl (c .new .ensures))
 
 returns : tie.Need-returns Inv-loop μ-loop
 returns c = search needs
@@ -27,6 +27,9 @@ slice-aggregate-round c = search needs
 
 slice-aggregate-round-2 : tie.Need-slice-aggregate-round-2 Inv-loop μ-loop
 slice-aggregate-round-2 c = search needs
+
+slice-aggregate-round-3 : tie.Need-slice-aggregate-round-3 Inv-loop μ-loop
+slice-aggregate-round-3 c = search needs
 
 round-requires : tie.Need-round-requires Inv-loop μ-loop
 round-requires c κs = search needs
@@ -38,7 +41,7 @@ loop-less : tie.Need-loop-less Inv-loop μ-loop
 loop-less c = search needs
 
 loop-again : tie.Need-loop-again Inv-loop μ-loop
-loop-again c = (search needs, search needs, round-on _ _ _ (c .before .before .before .before .before .before .before .loop .inv .2) (c .before .before .before .before .before .if1 .left) (search needs) (search needs) (c .before .before .before .before .before .before .before .loop .inv .1) (c .before .before .round .ensures))
+loop-again c = (search needs, search needs, search needs, round-on _ _ _ _ (c .before .before .before .before .before .before .before .before .before .loop .inv .3) (c .before .before .before .before .before .before .before .if1 .left) (search needs) (search needs) (c .before .before .before .before .before .before .before .before .before .loop .inv .2) (c .before .before .before .round .ensures))
 
 returns-2 : tie.Need-returns-2 Inv-loop μ-loop
 returns-2 c = search needs
@@ -54,6 +57,7 @@ run-all-spec =
     returns
     slice-aggregate-round
     slice-aggregate-round-2
+    slice-aggregate-round-3
     round-requires
     sub-turns
     loop-less

@@ -19,20 +19,20 @@ refill-requires c κs = search needs
 
 returns : tie.Need-returns
 unfolding endOutput
-returns c = took (c .before .before .before .if1 .taken, rw (eq-eqb _ _ (c .before .if2 .taken)) (c .finish .ensures), rw (eq-eqb _ _ (c .before .if2 .taken))) refl
+returns c = λ ts. took (refl, c .before .before .before .if1 .taken, rw (eq-eqb _ _ (c .before .if2 .taken)) (c .finish .ensures), rw (eq-eqb _ _ (c .before .if2 .taken))) refl
 
 same-length : tie.Need-same-length
 same-length c = search needs
 
 returns-2 : tie.Need-returns-2
 unfolding endOutput
-returns-2 c = took (c .before .before .before .before .before .before .if1 .taken, rw (ne-eqb _ _ (c .before .before .before .before .if2 .left)) (c .before .before .stop .ensures .0), rw (ne-eqb _ _ (c .before .before .before .before .if2 .left)) (c .before .before .stop .ensures .1)) refl
+returns-2 c = λ ts. took (refl, c .before .before .before .before .before .before .if1 .taken, rw (ne-eqb _ _ (c .before .before .before .before .if2 .left)) (c .before .before .stop .ensures .0), rw (ne-eqb _ _ (c .before .before .before .before .if2 .left)) (c .before .before .stop .ensures .1)) refl
 
 same-length-2 : tie.Need-same-length-2
 same-length-2 c = search needs
 
 returns-3 : tie.Need-returns-3
-returns-3 c = wanted refl (c .before .before .before .before .if1 .left) (c .before .before .refill .ensures) refl
+returns-3 c = λ ts. wanted refl (c .before .before .before .before .if1 .left) (c .before .before .refill .ensures) refl refl
 
 pub cut-spec : {M : Type 1} → statement M
 cut-spec =

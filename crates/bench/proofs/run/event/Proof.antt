@@ -1,16 +1,14 @@
--- `bench::run::event` meets its contract: the step played, its line put, and the trace behind it.
+-- `bench::run::event` meets its contract: played and shown by either way, and the run behind it.
 -- Assumes nothing.
 use Rattle.bench.proofs.Events.{event-run, plain-output, traced-output}
 use Rattle.bench.specs.Output.{Output, upTo}
 use Rattle.bench.specs.Run.{eventOutput}
+use Rattle.table.specs.Rows.{recordsOf}
 use borrow.Author.Needs.{needs}
 use denote.Ref.{now}
 use mathlib.Core.Path.{_≡_, ap}
 use Rattle.bench.proofs.run.event.Statement.{statement}
 use Rattle.bench.proofs.run.event.Tie as tie
-
-played-requires : tie.Need-played-requires
-played-requires c κs = search needs
 
 counted-requires : tie.Need-counted-requires
 counted-requires c κs = search needs
@@ -18,46 +16,63 @@ counted-requires c κs = search needs
 behind-requires : tie.Need-behind-requires
 behind-requires c κs = search needs
 
-write-line-requires : tie.Need-write-line-requires
-write-line-requires c κs = search needs
-
-traced-requires : tie.Need-traced-requires
-traced-requires c κs = search needs
+traced-event-requires : tie.Need-traced-event-requires
+traced-event-requires c κs = search needs
 
 same-length : tie.Need-same-length
 same-length c = search needs
 
-returns : tie.Need-returns
-returns c =
-    let a = c .before .before .before .before .before .before .before .before .before .before .before .before .before .before .before .before .before .before .before .args in
-    let p = c .before .before .before .before .before .before .before .before .before .before .before .before .before .before .played .ensures in
-    let n = c .before .before .before .before .before .before .before .before .before .before .before .before .before .counted .ensures in
-    let h : upTo (c .before .before .traced .last .0) (c .before .before .traced .result) ≡ eventOutput (a .r) (a .e) (now (a .frame)) (now (a .output)) =
-    traced-output (a .r) (a .e) (now (a .frame)) (now (a .output)) _ _ n (p .1) _ _ _ _ (p .2) (p .0) (c .before .before .before .before .before .if1 .taken) (c .before .before .before .before .before .before .before .before .write-line .ensures) (c .before .before .traced .ensures) in
-    (event-run (a .r) (a .e) (now (a .frame)) (now (a .output)) (a .size) _ _ _ _ _ n (p .0) (c .before .before .before .before .before .before .before .before .before .before .behind .ensures) h, ap (λ (o : Output). o .octets) h)
-
 same-length-2 : tie.Need-same-length-2
 same-length-2 c = search needs
 
+returns : tie.Need-returns
+returns c =
+    let a = c .before .before .before .before .before .before .before .before .before .before .before .before .before .args in
+    let ts = now (a .table) in
+    let n = c .before .before .before .before .before .before .before .before .before .counted .ensures in (
+      c .before .before .before .before .traced-event .ensures .0,
+      λ i.
+          let h : upTo (c .before .before .before .before .traced-event .last .1 .0) (c .before .before .before .before .traced-event .result) ≡ eventOutput (a .r) (recordsOf ts) (a .e) (now (a .frame)) (now (a .output)) =
+          traced-output (a .r) ts (a .e) (now (a .frame)) (now (a .output)) _ n _ (c .before .before .before .before .before .before .before .if1 .taken) (c .before .before .before .before .traced-event .ensures .1) in
+          (event-run (a .r) (recordsOf ts) (a .e) (now (a .frame)) (now (a .output)) (a .size) _ _ _ _ n (c .before .before .before .before .before .before .before .before .behind .ensures) h, ap (λ (o : Output). o .octets) h),
+      λ k. c .before .before .before .before .before .before .before .before .before .before .before .before .slice-known .given k .fits,
+      λ k. c .before .before .before .before .before .before .before .before .before .before .shared-slice-known .given k .fits,
+    )
+
+plain-requires : tie.Need-plain-requires
+plain-requires c κs = search needs
+
+same-length-3 : tie.Need-same-length-3
+same-length-3 c = search needs
+
+same-length-4 : tie.Need-same-length-4
+same-length-4 c = search needs
+
 returns-2 : tie.Need-returns-2
 returns-2 c =
-    let a = c .before .before .before .before .before .before .before .before .before .before .before .before .before .before .args in
-    let p = c .before .before .before .before .before .before .before .before .before .played .ensures in
-    let n = c .before .before .before .before .before .before .before .before .counted .ensures in
-    let h : upTo (c .before .before .before .write-line .last .0) (c .before .before .before .write-line .result) ≡ eventOutput (a .r) (a .e) (now (a .frame)) (now (a .output)) =
-    plain-output (a .r) (a .e) (now (a .frame)) (now (a .output)) _ _ n (p .1) _ (c .if1 .left) (c .before .before .before .write-line .ensures) in
-    (event-run (a .r) (a .e) (now (a .frame)) (now (a .output)) (a .size) _ _ _ _ _ n (p .0) (c .before .before .before .before .before .behind .ensures) h, ap (λ (o : Output). o .octets) h)
+    let a = c .before .before .before .before .before .before .before .before .before .before .before .before .before .args in
+    let ts = now (a .table) in
+    let n = c .before .before .before .before .before .before .before .before .before .counted .ensures in (
+      c .before .before .before .before .plain .ensures .0,
+      λ i.
+          let h : upTo (c .before .before .before .before .plain .last .1 .0) (c .before .before .before .before .plain .result) ≡ eventOutput (a .r) (recordsOf ts) (a .e) (now (a .frame)) (now (a .output)) =
+          plain-output (a .r) ts (a .e) (now (a .frame)) (now (a .output)) _ n _ i (c .before .before .before .before .before .before .before .if1 .left) (c .before .before .before .before .plain .ensures .1) in
+          (event-run (a .r) (recordsOf ts) (a .e) (now (a .frame)) (now (a .output)) (a .size) _ _ _ _ n (c .before .before .before .before .before .before .before .before .behind .ensures) h, ap (λ (o : Output). o .octets) h),
+      λ k. c .before .before .before .before .before .before .before .before .before .before .before .before .slice-known .given k .fits,
+      λ k. c .before .before .before .before .before .before .before .before .before .before .shared-slice-known .given k .fits,
+    )
 
 pub event-spec : {M : Type 1} → statement M
 event-spec =
     tie.close
     (tie.spec
-    played-requires
     counted-requires
     behind-requires
-    write-line-requires
-    traced-requires
+    traced-event-requires
     same-length
-    returns
     same-length-2
+    returns
+    plain-requires
+    same-length-3
+    same-length-4
     returns-2)

@@ -14,13 +14,13 @@ finish-requires : tie.Need-finish-requires
 finish-requires c κs = search needs
 
 returns : tie.Need-returns
-returns c = λ (h : c .before .before .before .before .args .r .at ≤ c .before .before .before .before .args .r .have) g. absurd (omega arith)
+returns c = λ (h : c .before .before .before .before .before .args .r .at ≤ c .before .before .before .before .before .args .r .have) g. absurd (omega arith)
 
 finish-requires-2 : tie.Need-finish-requires-2
 finish-requires-2 c κs = search needs
 
 returns-2 : tie.Need-returns-2
-returns-2 c = λ h (g : c .before .before .before .before .before .args .r .have ≤ length (now (c .before .before .before .before .before .args .input))). absurd (omega arith)
+returns-2 c = λ h (g : c .before .before .before .before .before .before .args .r .have ≤ length (now (c .before .before .before .before .before .before .args .input))). absurd (omega arith)
 
 part-take-start : tie.Need-part-take-start
 part-take-start c = search needs
@@ -83,7 +83,7 @@ same-length-2 : tie.Need-same-length-2
 same-length-2 c = search needs
 
 returns-3 : tie.Need-returns-3
-returns-3 c = λ h g. rw (← c .before .before .before .before .before .before .take .ensures, c .before .before .before .before .enum-told .given .1) (took (c .before .before .stop .ensures) refl)
+returns-3 c = λ h g. rw (← c .before .before .before .before .before .before .take .ensures, c .before .before .before .before .enum-told .given .1) (took (refl, c .before .before .stop .ensures .0, c .before .before .stop .ensures .1) refl)
 
 same-length-3 : tie.Need-same-length-3
 same-length-3 c = search needs
@@ -92,13 +92,13 @@ same-length-4 : tie.Need-same-length-4
 same-length-4 c = search needs
 
 returns-4 : tie.Need-returns-4
-returns-4 c = λ h g. rw (← c .before .before .before .before .before .before .before .before .before .take .ensures, c .before .before .before .before .before .before .before .enum-told2 .given .1) (c .before .before .before .before .cut .ensures)
+returns-4 c = λ h g. rw (← c .before .before .before .before .before .before .before .before .before .take .ensures, c .before .before .before .before .before .before .before .enum-told2 .given .1) (c .before .before .before .before .cut .ensures _)
 
 same-length-5 : tie.Need-same-length-5
 same-length-5 c = search needs
 
 returns-5 : tie.Need-returns-5
-returns-5 c = λ h g. rw (← c .before .before .before .before .before .before .before .take .ensures, c .before .before .before .before .before .t .given .1) (took (rw (← c .before .record-length .ensures) (c .begin .ensures), refl) refl)
+returns-5 c = λ h g. rw (← c .before .before .before .before .before .before .before .take .ensures, c .before .before .before .before .before .t .given .1) (took (refl, rw (← c .before .record-length .ensures) (c .begin .ensures), refl) refl)
 
 same-length-6 : tie.Need-same-length-6
 same-length-6 c = search needs
@@ -106,8 +106,11 @@ same-length-6 c = search needs
 same-length-7 : tie.Need-same-length-7
 same-length-7 c = search needs
 
+same-length-8 : tie.Need-same-length-8
+same-length-8 c = search needs
+
 returns-6 : tie.Need-returns-6
-returns-6 c = λ h g. rw (← c .before .before .before .before .before .before .before .before .before .before .before .take .ensures, c .before .before .before .before .before .before .before .before .before .t2 .given .1) (took (rw (← c .before .before .before .before .body .ensures, ← c .before .before .before .record-length2 .ensures) (c .before .before .event .ensures .0, c .before .before .event .ensures .1)) refl)
+returns-6 c = λ h g. rw (← c .before .before .before .before .before .before .before .before .before .before .before .before .before .before .take .ensures, c .before .before .before .before .before .before .before .before .before .before .before .before .t2 .given .1) (took (rw (← c .before .before .before .before .before .before .body .ensures, ← c .before .before .before .before .before .record-length2 .ensures) (c .before .before .before .before .event .ensures .0, c .before .before .before .before .event .ensures .1, c .before .before .before .before .event .ensures .2, c .before .before .before .before .event .ensures .3)) refl)
 
 pub turn-spec : {M : Type 1} → statement M
 turn-spec =
@@ -145,4 +148,5 @@ turn-spec =
     returns-5
     same-length-6
     same-length-7
+    same-length-8
     returns-6)
