@@ -33,6 +33,10 @@
  *   A refusal (1 to 9) has every other field 0 and leaves all octets of table and out as they were.
  *   Everything else is done at once: the frame in `out` is to be sent, the notice is to be passed on, the table is the new one.
  *
+ * Why a frame was dropped
+ *   peer_why_receive, peer_why_ask, peer_why_links and peer_why_pass name the first rule that decides such a call, and a value beside it; they change
+ *   nothing. They are for installers, not for the air: each looks at the whole table once more. Ask before the call itself is made.
+ *
  * Devices with several links
  *   A peer of an AP may be a device that joins once and speaks over one to four links, each with an address of its own: one record, one state,
  *   one AID. Before it joins, in State 1, peer_links names them. From then on a frame from any of them, or from the device's own address, is
@@ -127,6 +131,12 @@ typedef struct {
     peer_record at[PEER_PLACES];
 } peer_table;
 
+/* Why a call comes to what it does. */
+typedef struct {
+    uint64_t value;  /* the frame's length, the peer's state or the hold left, by the reason; else 0 */
+    unsigned reason; /* a refusal, 1 to 9, or PEER_WHY_NONE to PEER_WHY_NOTHING_TO_DO */
+} peer_why;
+
 /* A time that is over: an exchange's, or one of a query. */
 typedef struct {
     uint64_t address;
@@ -190,24 +200,34 @@ static inline peer_answer peer_ask(peer_table *table, const peer_settings *setti
     return answer;
 }
 
-/* Our own side names the links of a device that is in State 1 or has no record, at an AP: so many addresses, in place of those before. Count 0
-   takes them away and makes no record. Nothing is written, state and exchange stay. */
-static inline peer_answer peer_links(peer_table *table, const peer_settings *settings, uint64_t device, const uint64_t *links, size_t count,
-                                     uint8_t *out, size_t out_octets)
+/* A device and its links as octets, in room for PEER_NAMED_OCTETS_MOST; gives how many. What six octets do not hold is as invalid as the zeros that
+   stand for it; a count over four is refused as five is. */
+static inline size_t peer_named_write(uint64_t device, const uint64_t *links, size_t count, uint8_t *named)
 {
-    uint8_t named[PEER_NAMED_OCTETS_MOST] = { 0 };
     size_t given = count <= PEER_LINKS ? count : (size_t)PEER_LINKS, i;
-    peer_answer answer;
 
-    /* What six octets do not hold is as invalid as the zeros that stand for it; a count over four is refused as five is. */
+    for (i = 0; i < PEER_NAMED_OCTETS_MOST; i++)
+        named[i] = 0;
     if (device >> 48 == 0)
         peer_address_write(device, named);
     named[PEER_ADDRESS_OCTETS] = (uint8_t)(count == given ? count : PEER_LINKS + 1);
     for (i = 0; i < given; i++)
         if (links[i] >> 48 == 0)
             peer_address_write(links[i], named + PEER_NAMED_OCTETS_LEAST + PEER_ADDRESS_OCTETS * i);
-    peer_links_octets((uint8_t *)table, sizeof *table, (const uint8_t *)settings, sizeof *settings,
-                      named, PEER_NAMED_OCTETS_LEAST + PEER_ADDRESS_OCTETS * given, out, out_octets, (uint8_t *)&answer, sizeof answer);
+    return PEER_NAMED_OCTETS_LEAST + PEER_ADDRESS_OCTETS * given;
+}
+
+/* Our own side names the links of a device that is in State 1 or has no record, at an AP: so many addresses, in place of those before. Count 0
+   takes them away and makes no record. Nothing is written, state and exchange stay. */
+static inline peer_answer peer_links(peer_table *table, const peer_settings *settings, uint64_t device, const uint64_t *links, size_t count,
+                                     uint8_t *out, size_t out_octets)
+{
+    uint8_t named[PEER_NAMED_OCTETS_MOST];
+    size_t octets = peer_named_write(device, links, count, named);
+    peer_answer answer;
+
+    peer_links_octets((uint8_t *)table, sizeof *table, (const uint8_t *)settings, sizeof *settings, named, octets,
+                      out, out_octets, (uint8_t *)&answer, sizeof answer);
     return answer;
 }
 
@@ -221,6 +241,51 @@ static inline peer_answer peer_pass(peer_table *table, const peer_settings *sett
     peer_pass_octets((uint8_t *)table, sizeof *table, (const uint8_t *)settings, sizeof *settings, step,
                      out, out_octets, (uint8_t *)&answer, sizeof answer);
     return answer;
+}
+
+/* Why peer_receive would come to what it does, lent a buffer of so many octets. */
+static inline peer_why peer_why_receive(const peer_table *table, const peer_settings *settings, const uint8_t *frame, size_t frame_octets,
+                                        size_t room)
+{
+    peer_why why;
+
+    why.reason = (unsigned)peer_why_receive_octets((const uint8_t *)table, sizeof *table, (const uint8_t *)settings, sizeof *settings,
+                                                   frame, frame_octets, room, (uint8_t *)&why.value, sizeof why.value);
+    return why;
+}
+
+/* The same of peer_ask. */
+static inline peer_why peer_why_ask(const peer_table *table, const peer_settings *settings, uint8_t primitive, uint64_t address,
+                                    uint16_t code, size_t room)
+{
+    peer_why why;
+
+    why.reason = (unsigned)peer_why_ask_octets((const uint8_t *)table, sizeof *table, (const uint8_t *)settings, sizeof *settings,
+                                               primitive, address, code, room, (uint8_t *)&why.value, sizeof why.value);
+    return why;
+}
+
+/* The same of peer_links. */
+static inline peer_why peer_why_links(const peer_table *table, const peer_settings *settings, uint64_t device, const uint64_t *links,
+                                      size_t count, size_t room)
+{
+    uint8_t named[PEER_NAMED_OCTETS_MOST];
+    size_t octets = peer_named_write(device, links, count, named);
+    peer_why why;
+
+    why.reason = (unsigned)peer_why_links_octets((const uint8_t *)table, sizeof *table, (const uint8_t *)settings, sizeof *settings,
+                                                 named, octets, room, (uint8_t *)&why.value, sizeof why.value);
+    return why;
+}
+
+/* The same of peer_pass. */
+static inline peer_why peer_why_pass(const peer_table *table, const peer_settings *settings, uint16_t step, size_t room)
+{
+    peer_why why;
+
+    why.reason = (unsigned)peer_why_pass_octets((const uint8_t *)table, sizeof *table, (const uint8_t *)settings, sizeof *settings,
+                                                step, room, (uint8_t *)&why.value, sizeof why.value);
+    return why;
 }
 
 /* The sender of a frame that was not refused and that has one: Address 2, from octet 10 on. */

@@ -21,6 +21,17 @@ static inline const char *peer_refusal_name(unsigned number)
     return PEER_NAME_IN(names, number);
 }
 
+/* The words that `bench why` prints. */
+static inline const char *peer_why_name(unsigned number)
+{
+    static const char *const names[] = {
+        "none", "refusal-1", "refusal-2", "refusal-3", "refusal-4", "refusal-5", "refusal-6", "refusal-7", "refusal-8", "refusal-9",
+        "no-class", "class-filter", "group-rule", "nothing-to-do",
+    };
+
+    return PEER_NAME_IN(names, number);
+}
+
 static inline const char *peer_verdict_name(unsigned number)
 {
     static const char *const names[] = { "no verdict", "admitted", "discarded" };

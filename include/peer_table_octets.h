@@ -1,4 +1,4 @@
-/* peer_table_octets.h - the peer table's numbers and its four calls, as every processor has them: over numbers and octets alone.
+/* peer_table_octets.h - the peer table's numbers and its calls, as every processor has them: over numbers and octets alone.
  *
  * Include peer_table.h, which says what a host must know and puts structs and small functions round these calls. A host that is not
  * little-endian, or that brings its own forms, includes this file by itself.
@@ -15,14 +15,18 @@
  *   answer     24 octets or more, of which 24 are written: current AP 8, code 2, written 2, refusal 1, verdict 1, notice 1,
  *              distribution system 1, state 1, zero 7
  * The result is the refusal's number. A refusal writes its number and zeros into the answer, and leaves table and out. Where the answer
- * is too short, which is refusal 1, nothing at all is written. */
+ * is too short, which is refusal 1, nothing at all is written.
+ *
+ * Each of the four calls has a fellow that says why it comes to what it does: peer_why_.. is lent the same, but table and settings to be read alone, in
+ * place of out its length (room), and in place of the answer the octets for a value. The result is the reason's number. The value, 8 octets, is written at
+ * the front of those lent for it; where there are fewer, it is not. */
 #ifndef PEER_TABLE_OCTETS_H
 #define PEER_TABLE_OCTETS_H
 
 #include <stdint.h>
 
 /* Rises when a call, a layout or a number changes. */
-#define PEER_TABLE_VERSION 6
+#define PEER_TABLE_VERSION 7
 
 /* Sizes in octets, counts, and the times that the rules fix. A time is in TU of 1,024 microseconds. */
 enum {
@@ -35,6 +39,7 @@ enum {
     PEER_SETTINGS_OCTETS_EDITION = 14, /* nor a query's times */
     PEER_SETTINGS_OCTETS_LEAST = 12,   /* nor edition and protection; no other length is taken */
     PEER_ANSWER_OCTETS = 24,
+    PEER_VALUE_OCTETS = 8,     /* the value beside a reason */
     PEER_ADDRESS_OCTETS = 6,
     PEER_NAMED_OCTETS_LEAST = 7, /* a device without links; six more for each */
     PEER_NAMED_OCTETS_MOST = 31,
@@ -79,6 +84,17 @@ enum {
     PEER_REFUSED_NO_MATCH = 7, /* the primitive finds no matching exchange or state */
     PEER_REFUSED_HELD = 8,     /* this AP told the station to wait, and the time is not over */
     PEER_REFUSED_BUSY = 9      /* an exchange is under way */
+};
+
+/* Why a call comes to what it does: the first rule that decides. 1 to 9 are the refusals, by their own numbers. The value beside a reason is the frame's length
+   for refusal 3 (0 where it is of no frame), the state of the peer for refusal 7 and the class filter (1 for a peer without a record), the hold left
+   for refusal 8, else 0. */
+enum {
+    PEER_WHY_NONE = 0,          /* something is done; of all but frames: it is not refused */
+    PEER_WHY_NO_CLASS = 10,     /* discarded: of another version, or no class */
+    PEER_WHY_CLASS_FILTER = 11, /* discarded: its class does not pass in the peer's state */
+    PEER_WHY_GROUP_RULE = 12,   /* discarded: an exchange's frame to a group address */
+    PEER_WHY_NOTHING_TO_DO = 13 /* admitted: no record changes, there is no notice, nothing is written */
 };
 
 /* The verdict on a frame */
@@ -204,6 +220,19 @@ uint64_t peer_links_octets(uint8_t *table, uint64_t table_octets, const uint8_t 
 /* Time passed. */
 uint64_t peer_pass_octets(uint8_t *table, uint64_t table_octets, const uint8_t *settings, uint64_t settings_octets,
                           uint16_t step, uint8_t *out, uint64_t out_octets, uint8_t *answer, uint64_t answer_octets);
+
+/* Why: a frame received, our own side asking or naming links, time passed, with a buffer of so many octets. */
+uint64_t peer_why_receive_octets(const uint8_t *table, uint64_t table_octets, const uint8_t *settings, uint64_t settings_octets,
+                                 const uint8_t *frame, uint64_t frame_octets, uint64_t room, uint8_t *value, uint64_t value_octets);
+
+uint64_t peer_why_ask_octets(const uint8_t *table, uint64_t table_octets, const uint8_t *settings, uint64_t settings_octets,
+                             uint8_t primitive, uint64_t address, uint16_t code, uint64_t room, uint8_t *value, uint64_t value_octets);
+
+uint64_t peer_why_links_octets(const uint8_t *table, uint64_t table_octets, const uint8_t *settings, uint64_t settings_octets,
+                               const uint8_t *named, uint64_t named_octets, uint64_t room, uint8_t *value, uint64_t value_octets);
+
+uint64_t peer_why_pass_octets(const uint8_t *table, uint64_t table_octets, const uint8_t *settings, uint64_t settings_octets,
+                              uint16_t step, uint64_t room, uint8_t *value, uint64_t value_octets);
 
 #ifdef __cplusplus
 }

@@ -1,9 +1,11 @@
-"""Runs the stored cases: python3 -m tests.cases --bench CMD [--trace-too[=WORD]] [NAME ...].
+"""Runs the stored cases: python3 -m tests.cases --bench CMD [--trace-too[=WORD]] [--why[=WORD]] [NAME ...].
 
 A case is a folder of tests/cases: `about` says in one line what it shows, `input.hex` is the
 bench input, one record a line and `#` to the end of a line a comment, `stdout` is what the
 rules give, worked out by hand. With --trace-too each case is run once more with the argument
 WORD (`trace` if not given): the lines of its events among the trace must be the same ones.
+A case may have a file `why` beside: with --why it is run with the argument WORD (`why` if not
+given), and must print that file.
 """
 
 import argparse
@@ -50,7 +52,7 @@ def difference(expected, printed):
     return f"expected {len(wanted) - 1} lines, printed {len(got) - 1}"
 
 
-def check(folder, command, trace):
+def check(folder, command, trace, why):
     """The faults of one case, as text."""
     octets = read_hex((folder / "input.hex").read_text())
     expected = (folder / "stdout").read_text()
@@ -58,6 +60,9 @@ def check(folder, command, trace):
     if trace:
         found = difference(expected, without_trace(run(command + [trace], octets)))
         faults.append(found and f"with {trace}, {found}")
+    if why and (folder / "why").exists():
+        found = difference((folder / "why").read_text(), run(command + [why], octets))
+        faults.append(found and f"with {why}, {found}")
     return [fault for fault in faults if fault]
 
 
@@ -65,6 +70,7 @@ def main():
     parser = argparse.ArgumentParser(description=__doc__.splitlines()[0])
     parser.add_argument("--bench", required=True)
     parser.add_argument("--trace-too", nargs="?", const="trace", metavar="WORD")
+    parser.add_argument("--why", nargs="?", const="why", metavar="WORD")
     parser.add_argument("names", nargs="*", help="only these cases")
     given = parser.parse_args()
     command = shlex.split(given.bench)
@@ -72,7 +78,7 @@ def main():
                      and (not given.names or path.name in given.names))
     failed = 0
     with concurrent.futures.ThreadPoolExecutor(os.cpu_count()) as pool:
-        results = pool.map(lambda folder: check(folder, command, given.trace_too), folders)
+        results = pool.map(lambda folder: check(folder, command, given.trace_too, given.why), folders)
         for folder, faults in zip(folders, results):
             failed += bool(faults)
             for fault in faults:

@@ -6,8 +6,8 @@
 #include <stdio.h>
 #include <string.h>
 
-#if PEER_TABLE_VERSION != 6
-#error "this test is of version 6"
+#if PEER_TABLE_VERSION != 7
+#error "this test is of version 7"
 #endif
 
 static int faults;
@@ -92,6 +92,7 @@ static void named(const char *(*name)(unsigned), unsigned count, const char *wha
 static void names(void)
 {
     named(peer_refusal_name, 10, "the names of refusals");
+    named(peer_why_name, 14, "the words of reasons");
     named(peer_verdict_name, 3, "the names of verdicts");
     named(peer_notice_name, 11, "the names of notices");
     named(peer_ds_name, 3, "the words to the distribution system");
@@ -185,6 +186,58 @@ static void ad_hoc(void)
     want(a.refusal == PEER_REFUSED_ROLE, "nobody associates in an ad hoc network");
 }
 
+static int is(peer_why why, unsigned reason, uint64_t value)
+{
+    return why.reason == reason && why.value == value;
+}
+
+/* Why each call comes to what it does, at the limits of each value; nothing but the value is written. */
+static void whys(void)
+{
+    static const peer_settings station = { PEER_STATION, { 2, 0, 0, 0, 1, 1 }, 0, 100, 100, PEER_EDITION_1, 0, 201, 1000, { 0 } };
+    static const peer_settings ap = { PEER_AP, { 2, 0, 0, 0, 0, 0x0a }, 0, 100, 100, PEER_EDITION_1, 0, 201, 1000, { 0 } };
+    const uint64_t held = 0x010000000002u, device = 0x020000000002u, link[1] = { 0x030000000002u };
+    static uint8_t frame[4097];
+    uint8_t value[PEER_VALUE_OCTETS + 1];
+    peer_table table, before;
+
+    memset(&table, 0, sizeof table);
+    table.at[0].address = held;
+    table.at[0].state = PEER_STATE_2;
+    table.at[0].hold = 4294967295u;
+    before = table;
+    want(is(peer_why_ask(&table, &station, PEER_ASSOCIATE_REQUEST, held, 0, PEER_OUT_LEAST), PEER_REFUSED_HELD, 4294967295u), "the longest hold");
+    want(is(peer_why_ask(&table, &station, PEER_SET_PROTECTION, held, 0, PEER_OUT_LEAST), PEER_REFUSED_NO_MATCH, 2), "the peer's state");
+    want(is(peer_why_ask(&table, &station, PEER_SET_PROTECTION, device, 0, PEER_OUT_LEAST), PEER_REFUSED_NO_MATCH, 1), "a stranger's state");
+    want(is(peer_why_ask(&table, &station, PEER_AUTHENTICATE_REQUEST, held, 0, PEER_OUT_LEAST), PEER_WHY_NONE, 0), "something is done");
+    want(is(peer_why_ask(&table, &station, PEER_AUTHENTICATE_REQUEST, held, 0, PEER_OUT_LEAST - 1), PEER_REFUSED_BUFFER, 0), "a buffer too short");
+    want(is(peer_why_ask(&table, &ap, PEER_AUTHENTICATE_REQUEST, device, 0, PEER_OUT_LEAST), PEER_REFUSED_TABLE, 0), "an AP has no holds");
+    want(is(peer_why_pass(&table, &station, 0, PEER_PASS_OUT_LEAST), PEER_REFUSED_INPUT, 0), "a clock step of 0");
+    want(is(peer_why_pass(&table, &station, 65535, PEER_PASS_OUT_LEAST), PEER_WHY_NONE, 0), "a clock step");
+    want(is(peer_why_links(&table, &station, device, link, 1, PEER_OUT_LEAST), PEER_REFUSED_ROLE, 0), "links at a station");
+    want(memcmp(&table, &before, sizeof table) == 0, "nothing is changed");
+
+    frame[0] = 0x08;
+    peer_address_write(peer_address_read(station.own), frame + 4);
+    peer_address_write(held, frame + 10);
+    want(is(peer_why_receive(&table, &station, frame, 4097, PEER_OUT_LEAST), PEER_REFUSED_INPUT, 4097), "a frame of 4,097 octets");
+    want(is(peer_why_receive(&table, &station, frame, 4096, PEER_OUT_LEAST), PEER_WHY_CLASS_FILTER, 2), "one of 4,096, kept out in State 2");
+    peer_address_write(device, frame + 10);
+    want(is(peer_why_receive(&table, &station, frame, 24, PEER_OUT_LEAST), PEER_WHY_CLASS_FILTER, 1), "kept out, without a record");
+    frame[0] = 0xb0;
+    frame[4] = 0xff;
+    want(is(peer_why_receive(&table, &station, frame, 30, PEER_OUT_LEAST), PEER_WHY_GROUP_RULE, 0), "an authentication to a group address");
+    frame[0] = 0xb1;
+    want(is(peer_why_receive(&table, &station, frame, 30, PEER_OUT_LEAST), PEER_WHY_NO_CLASS, 0), "another version");
+    frame[0] = 0x80;
+    want(is(peer_why_receive(&table, &station, frame, 30, PEER_OUT_LEAST), PEER_WHY_NOTHING_TO_DO, 0), "a beacon");
+    memset(value, 7, sizeof value);
+    want(peer_why_receive_octets((const uint8_t *)&table, sizeof table, (const uint8_t *)&station, sizeof station, frame, 9, PEER_OUT_LEAST,
+                                 value, PEER_VALUE_OCTETS - 1) == PEER_REFUSED_INPUT && value[0] == 7, "no room for the value");
+    want(peer_why_receive_octets((const uint8_t *)&table, sizeof table, (const uint8_t *)&station, sizeof station, frame, 9, PEER_OUT_LEAST,
+                                 value, sizeof value) == PEER_REFUSED_INPUT && value[0] == 9 && value[7] == 0 && value[8] == 7, "room for it");
+}
+
 /* Settings from before there were editions, queries or ad hoc networks: refused as a struct, taken as the octets that they were. */
 static void older_settings(void)
 {
@@ -223,6 +276,7 @@ int main(void)
     calls();
     links();
     ad_hoc();
+    whys();
     older_settings();
     return faults > 0;
 }

@@ -3,10 +3,12 @@
  * cc -std=c11 -O2 -Wall -Wextra -Wpedantic -Wconversion -Wshadow -Werror -o independent *.c
  *
  * Without arguments: one line for each event. With -v: trace lines after each event's line
- * (README.md). Exit status 0, also after `stop`; 1 on a read or write error; 2 on other arguments.
+ * (README.md). With why: one line for each event, its number, the rule that decided and the value beside
+ * it. Exit status 0, also after `stop`; 1 on a read or write error; 2 on other arguments.
  */
-#include "bench.h"
+#include "why.h"
 
+#include <inttypes.h>
 #include <signal.h>
 #include <string.h>
 
@@ -26,6 +28,15 @@ static void tell_trace(struct bench *b)
 {
     tell_line(b);
     bench_trace(b);
+}
+
+/* The reason is that of the table as it was before the event. */
+static void tell_why(struct bench *b)
+{
+    struct reason reason = why_of(&b->settings, b->table, &b->in, SCRATCH);
+
+    bench_answer(b);
+    printf("%" PRIu64 " %s %" PRIu32 "\n", b->events, reason.word, reason.value);
 }
 
 /* Takes events one after the other until the input ends, faults, or output fails. */
@@ -51,7 +62,9 @@ static int run_words(int words, char **word)
         return each_event(tell_line);
     if (words == 1 && strcmp(word[0], "-v") == 0)
         return each_event(tell_trace);
-    fputs("independent: no words, or -v\n", stderr);
+    if (words == 1 && strcmp(word[0], "why") == 0)
+        return each_event(tell_why);
+    fputs("independent: no words, -v or why\n", stderr);
     return 2;
 }
 

@@ -61,7 +61,7 @@ def unsent(name, steps):
             if octets not in written and octets[0] >> 2 & 3 == bench_input.MANAGEMENT]
 
 
-def charted(command):
+def charted(trace, why):
     """Charts of the examples, and of a scenario with long names and many peers: no words that overlap or leave
     the picture, and no hold at an access point."""
     texts = {file.name: file.read_text() for file in sorted(EXAMPLES.glob("*.scenario"))}
@@ -72,7 +72,7 @@ def charted(command):
                            + "".join(f"frame data from=02:00:00:00:{n:02x}:77\n" for n in range(9)))
     found = []
     for name, text in texts.items():
-        lines = stream.played(source.lines(io.StringIO(text), name), command)
+        lines = stream.played(source.lines(io.StringIO(text), name), trace, why)
         canvas = played_chart.draw(played_chart.collected(lines), name)
         svg = canvas.svg()
         xml.dom.minidom.parseString(svg)
@@ -97,7 +97,7 @@ def main():
             for side in sorted({step.side for step in scene.steps}):
                 faults += played(name, scene, side, command)
         faults += [f"{name} is not as tools/pictures/make.py makes it" for name in make.stale()]
-        wrong, charts = charted(command)
+        wrong, charts = charted(command, shlex.split(given.bench) + ["why"])
         faults += wrong
     except (move_list.Fault, situations.Trouble) as fault:
         faults.append(str(fault))

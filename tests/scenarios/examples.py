@@ -7,6 +7,7 @@ and the lines that the bench program is checked with, and the README shows a par
 
 import argparse
 import pathlib
+import random
 import re
 import shlex
 import subprocess
@@ -14,48 +15,13 @@ import sys
 import textwrap
 
 from tests.cases import difference
-from tools.scenario import source
+from tools.scenario import show, source, stream
 
-from . import expected
+from . import expected, reasons
 from .playing import inputs, lines_of, plain_lines, told
 
 ROOT = pathlib.Path(__file__).resolve().parents[2]
 EXAMPLES = ROOT / "examples"
-# Settings, an event, its refusal and what is told of that.
-GOOD = "ap own=02:00:00:00:00:01"
-AD_HOC, NETWORK = "ad-hoc own=02:00:00:00:00:01", "06:00:00:00:00:ad"
-SETTINGS = "the settings are not well formed"
-ASKED = "unknown primitive, peer address invalid, our own or a link's, or code not allowed"
-NAMED = "over four links, or an address that is invalid, our own, given twice or in use elsewhere"
-HEARD = "too short, Address 2 is invalid or our own, or a response whose elements do not end with it"
-REFUSED = [
-    (f"{GOOD} rsna=2", "clock 1", 2, SETTINGS), (f"{GOOD} timeouts=0,1", "clock 1", 2, SETTINGS),
-    (f"{GOOD} timeouts=1,0", "frame ack", 2, SETTINGS), ("ap own=broadcast", "clock 1", 2, SETTINGS),
-    ("settings role=3 own=02:00:00:00:00:01", "clock 1", 2, SETTINGS),
-    (f"{AD_HOC} network=broadcast", "clock 1", 2, SETTINGS),
-    (f"{AD_HOC} network={NETWORK} rsna=2", "frame ack", 2, SETTINGS),
-    (f"settings role=4 own=02:00:00:00:00:01 network={NETWORK}", "clock 1", 2, SETTINGS),
-    (f"{AD_HOC} network={NETWORK}", "prim associate 02:00:00:00:00:0a", 5, "this primitive is not for an ad hoc network"),
-    (f"{AD_HOC} network={NETWORK}", "prim set-protection 02:00:00:00:00:0a code=1", 3, ASKED),
-    (f"{AD_HOC} network=own", "prim respond-authenticate 02:00:00:00:00:0a", 7, "the peer has not asked for authentication"),
-    (f"{GOOD} edition=0", "clock 1", 2, SETTINGS), (f"{GOOD} edition=3 protection=1", "frame ack", 2, SETTINGS),
-    (f"{GOOD} protection=2", "clock 1", 2, SETTINGS),
-    (f"{GOOD} query-retry=0", "clock 1", 2, SETTINGS), (f"{GOOD} query-maximum=0", "frame ack", 2, SETTINGS),
-    (GOOD, "prim query 02:00:00:00:00:0a", 7, "no SA Query request to this peer is due"),
-    (GOOD, "prim query 02:00:00:00:00:0a code=1", 3, ASKED),
-    ("station own=02:00:00:00:00:01", "prim query 02:00:00:00:00:0a", 5, "this primitive is not for a station"),
-    (GOOD, "prim 12 02:00:00:00:00:0a", 3, ASKED), (GOOD, "links 02:00:00:00:00:0a own", 3, NAMED),
-    (GOOD, "links own none", 3, NAMED), (f"{GOOD} rsna=2", "links own none", 2, SETTINGS),
-    ("station own=02:00:00:00:00:01", "links 02:00:00:00:00:0a none", 5, "this primitive is not for a station"),
-    (GOOD, "clock 0", 3, "a clock step is at least 1 TU"),
-    (GOOD, "prim 255 02:00:00:00:00:0a", 3, ASKED),
-    (GOOD, "prim report 02:00:00:00:00:0a acknowledged=2", 3, ASKED),
-    (GOOD, "prim deauthenticate 02:00:00:00:00:0a reason=0", 3, ASKED),
-    (GOOD, "prim authenticate 02:00:00:00:00:0a", 5, "this primitive is not for an AP"),
-    (GOOD, "frame raw b0 00*8", 3, HEARD),
-    (GOOD, "frame assoc-response from=02:00:00:00:00:0a elements=38050300", 3, HEARD),
-    (GOOD, "frame reassoc-response from=02:00:00:00:00:0a to=broadcast length=31", 3, HEARD),
-]
 # A block that tells what an event did: a line of a scenario, and a number below it.
 TOLD = re.compile(r"^(prim|frame|clock) .*\n    [0-9]+  ", re.MULTILINE)
 
@@ -70,11 +36,12 @@ def check(file, bench, independent):
     stored = file.with_suffix(".out").read_text()
     lines = lines_of(file.read_text(), file.name)
     plain = plain_lines(lines, bench)
-    tables = [told(lines, command, True) for command in (bench + ["trace"], independent + ["-v"])]
+    both = (bench + ["trace"], bench + ["why"]), (independent + ["-v"], independent + ["why"])
+    tables = [told(lines, *program, True) for program in both]
     compared = {
         "the command": (stored, command_prints(str(file)).decode()),
-        "bench": (stored, told(lines, bench + ["trace"])),
-        "independent program": (stored, told(lines, independent + ["-v"])),
+        "bench": (stored, told(lines, *both[0])),
+        "independent program": (stored, told(lines, *both[1])),
         "plain lines of both": (plain, plain_lines(lines, independent)),
         "--lines": (plain, command_prints("--lines", str(file)).decode()),
         "tables of both": tuple(tables),
@@ -87,13 +54,25 @@ def check(file, bench, independent):
     return [f"{what}: {fault}" for what, fault in found.items() if fault]
 
 
-def refused_values(bench):
-    """What a field can hold and the rules refuse is played, and gets its number."""
-    faults = []
-    for settings, line, number, said in REFUSED:
-        text = told(lines_of(f"{settings}\n{line}\n"), bench + ["trace"])
-        if f"    1  refused {number}: {said}; nothing changes\n" not in text:
-            faults.append(text)
+def many_lines(seed, count):
+    """Lines of an access point with forty peers, drawn by chance."""
+    draw = random.Random(seed)
+    forms = ("frame auth-request from={}", "prim respond-authenticate {} status=0", "frame assoc-request from={}",
+             "prim respond-associate {} status=0", "prim report {} acknowledged=1", "frame data from={} body={:04x}",
+             "frame deauth from={} reason={}", "clock {1}", "frame sa-query-request from={} id={}", "prim query {}",
+             "frame data from={} version=1", "frame assoc-response from={}", "links {} 02:00:00:00:09:01", "prim 3 {} code=0")
+    for _ in range(count):
+        yield draw.choice(forms).format(f"s-{draw.randrange(1, 41)}", draw.randrange(1, 300)) + "\n"
+
+
+def kept_words(bench):
+    """What is told of an event is the same whether or not its like was told before."""
+    text = "ap own=02:00:00:00:00:01 edition=2 protection=1\nname s-1..40 = 02:00:00:00:01:01\n" + "".join(many_lines(1, 4000))
+    keeping, anew, faults = show.Teller(), show.Teller(), []
+    anew._again = anew._said
+    for line, played in stream.played(iter(lines_of(text)), bench + ["trace"], bench + ["why"]):
+        one, other = keeping.line(line, played), anew.line(line, played)
+        faults += [] if one == other else [f"{one} is told in place of {other}"]
     return faults
 
 
@@ -123,7 +102,7 @@ def readme(bench):
     if shown[0] not in (EXAMPLES / "nine_steps.out").read_text():
         faults.append("what it shows is not told of the nine steps")
     try:
-        if not told(lines_of(own[0], "its scenario"), bench + ["trace"]).endswith("expectations, all met\n"):
+        if not told(lines_of(own[0], "its scenario"), bench + ["trace"], bench + ["why"]).endswith("expectations, all met\n"):
             faults.append("its scenario does not do what it expects")
     except source.ScenarioFault as fault:
         faults.append(str(fault))
@@ -151,9 +130,10 @@ def main():
     files = sorted(EXAMPLES.glob("*.scenario"))
     results = {file.name: check(file, bench, independent) for file in files}
     results["nine steps"] = nine_steps()
-    results["refused values"] = refused_values(bench)
-    results["expectations"] = expected.faults(bench + ["trace"])
+    results["reasons"] = reasons.faults(bench + ["trace"], bench + ["why"])
+    results["expectations"] = expected.faults(bench + ["trace"], bench + ["why"])
     results["unmet"] = unmet_is_told()
+    results["kept words"] = kept_words(bench)
     results["README.md"] = readme(bench)
     for name, faults in results.items():
         for fault in faults:

@@ -44,8 +44,11 @@ PLAYED = [
      {"reports query dock": TIMED_OUT, "nothing": "event 2: something is sent or reported"}),
     (START, "prim authenticate dock\n", "prim authenticate dock", ["refused", "refused 9", "nothing"],
      {"done": "refused 9", "refused 8": "refused 9", "sends auth-request": "nothing is sent", "admitted": "refused 9"}),
-    (AP_START, JOINED, "frame data from=scanner", ["admitted", "nothing", "done", "sends nothing"],
-     {"discarded": "admitted", "refused": "admitted"}),
+    (AP_START, JOINED, "frame data from=scanner",
+     ["admitted", "nothing", "done", "sends nothing", "because nothing-to-do", "because nothing-to-do 0"],
+     {"discarded": "admitted", "refused": "admitted", "because none": "nothing-to-do 0"}),
+    (AP_START, "", "frame data from=scanner", ["because class-filter", "because class-filter 1"],
+     {"because class-filter 2": "class-filter 1", "because no-class": "class-filter 1"}),
     (AP_START, JOINED, "frame assoc-request from=scanner",
      ["query scanner due", "sends assoc-response status=30 comeback=1000 aid=0"],
      {"query scanner sent": "scanner has query due", "tells associate.indication": "our side is told nothing"}),
@@ -59,20 +62,20 @@ PLAYED = [
 ]
 
 
-def one(start, before, event, wanted, command):
+def one(start, before, event, wanted, program):
     """What came in place of one expectation, '' where it is met."""
     teller = show.Teller()
     text = f"{start}{before}{event}\nexpect {wanted}\n"
-    for line, played in stream.played(iter(lines_of(text)), command):
+    for line, played in stream.played(iter(lines_of(text)), *program):
         teller.line(line, played)
     return teller.failed[0][1] if teller.failed else ""
 
 
-def faults(command):
+def faults(*program):
     found = []
     for start, before, event, met, unmet in PLAYED:
         for wanted, came in [(wanted, "") for wanted in met] + list(unmet.items()):
-            got = one(start, before, event, wanted, command)
+            got = one(start, before, event, wanted, program)
             if got != came:
                 found.append(f"{event}: expect {wanted}: {got or 'met'}")
     return found

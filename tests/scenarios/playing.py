@@ -22,10 +22,10 @@ def inputs(lines):
     return found
 
 
-def told(lines, command, with_table=False):
-    """The transcript, with a program and the argument that makes it trace."""
+def told(lines, trace, why, with_table=False):
+    """The transcript, by a program with the argument that makes it trace, and with the one that makes it give reasons."""
     teller = show.Teller(with_table)
-    return "".join(teller.line(*one) for one in stream.played(iter(lines), command)) + teller.ending()
+    return "".join(teller.line(*one) for one in stream.played(iter(lines), trace, why)) + teller.ending()
 
 
 def plain_lines(lines, command):

@@ -123,7 +123,7 @@ def odd_answers_are_told():
     faults = []
     for program, said in programs:
         try:
-            told(played, program)
+            told(played, program, ["sh", "-c", "cat >/dev/null; echo 1 none 0"])
             faults.append(f"taken: {program}")
         except answers.BenchFault as fault:
             faults += [] if str(fault) == said else [str(fault)]

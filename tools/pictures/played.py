@@ -93,7 +93,7 @@ def draw(rows, name):
     several = sum(row.settings is not None for row in rows) > 1
     for row, remark in headings(rows):
         if row.settings:
-            drawn.role = row.settings.role
+            drawn.settings = row.settings
             if several:
                 drawn.heading(settings_words(row.settings), True)
         if remark and (row.played or several) and remark_of(rows[0].text) not in remark:

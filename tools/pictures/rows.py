@@ -46,10 +46,10 @@ def joined(one, label):
 
 
 class Drawn:
-    """A chart that is being drawn; the role is that of the settings in force."""
+    """A chart that is being drawn, with the settings in force."""
 
     def __init__(self, canvas, lifelines):
-        self.canvas, self.lifelines, self.role = canvas, lifelines, 0
+        self.canvas, self.lifelines, self.settings = canvas, lifelines, None
         names = {LEFT: "Own side", TABLE: "Peer table", **{x: name for name, x in lifelines.names.items()}}
         self.chart = Chart(canvas, names, top=84)
         self.chart.y -= 10
@@ -94,24 +94,22 @@ class Drawn:
         else:
             who = f"{one.peer}: " if one.peer and (self.lifelines.grouped or one.count > 1) else ""
             stopped = answer.verdict == "D" or answer.refusal > 0
-            label = who + joined(one, lambda heard, _: frame_label(heard.frame)) + self.judged(one)
+            label = who + joined(one, lambda heard, _: frame_label(heard.frame)) + self.judged(one, say)
             chart.message(self.lifelines.at(event.peer), TABLE, label, None, RED if stopped else BLUE, stopped=stopped)
 
-    def judged(self, one):
+    def judged(self, one, say):
         """What is said of a frame beside its name: whether it was let in, where nothing else shows it."""
-        _, answer, before = one.first
-        if answer.refusal:
-            return f", refused {answer.refusal}"
-        if answer.verdict == "D":
-            return ", discarded" + told.discarded(answer)
+        event, answer, before = one.first
+        if answer.refusal or answer.verdict == "D":
+            return f", {told.decided(event, answer, before, self.settings, say)}"
         still = not answer.notice and not answer.octets and before == answer.table
         return ", admitted" if still else ""
 
     def answered(self, one, row):
         """What the table says of it."""
-        (event, answer, _), chart, say = one.first, self.chart, row.names.say
-        if answer.refusal:
-            chart.message(TABLE, LEFT, f"refused {answer.refusal}: {told.refused(event, answer, self.role)}", None, RED)
+        (event, answer, before), chart, say = one.first, self.chart, row.names.say
+        if answer.refusal and event.kind != "frame":
+            chart.message(TABLE, LEFT, told.decided(event, answer, before, self.settings, say), None, RED)
         if event.kind == "clock":
             for line in told.reports(b"".join(said.octets for _, said, _ in row.played), say):
                 chart.message(TABLE, LEFT, line.rsplit(", place", 1)[0], None, RED)
@@ -146,7 +144,7 @@ class Drawn:
         if new is None:
             return f"{name}: place {old.place} free"
         parts = [f"{name}: State {new.state}"]
-        if self.role == bench.STATION and (new.hold or old and old.hold):
+        if self.settings.role == bench.STATION and (new.hold or old and old.hold):
             parts.append(f"hold {new.hold} TU" if new.hold else "no hold")
         if new.exchange and (old is None or old.exchange != new.exchange):
             parts.append(told.exchange(new).partition(",")[0].replace(" request sent", " sent"))

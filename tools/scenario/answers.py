@@ -6,9 +6,11 @@ import re
 # The query is 0 none, 1 running, 2 running with its request due, 3 timed out; the links are addresses.
 Record = collections.namedtuple("Record", "place address state exchange left hold identifier query "
                                 "query_left links", defaults=(0, 0, 0, ()))
-# The table is by address; changed are the addresses whose records are not as they were, by place.
+# The table is by address; changed are the addresses whose records are not as they were, by place. The reason is the
+# rule that decided, with its value.
 Answer = collections.namedtuple(
-    "Answer", "number refusal verdict notice code written ds state octets current table changed")
+    "Answer", "number refusal verdict notice code written ds state octets current table changed reason value",
+    defaults=("none", 0))
 
 LINE = re.compile(r"\d+ [AD-] \d+ \d+ \d+ [JL-] \d+")
 NEXT = re.compile(r"\n(?=[^ ])")
@@ -16,6 +18,7 @@ NEXT_PLACE = re.compile(r"\n(?=  place )")
 FIRST = re.compile(r"(?:  octets ([0-9a-f]+)(?:\n|$))?(?:  current ([0-9a-f]{12})(?:\n|$))?")
 PLACE = re.compile(r"  place (\d+) ([0-9a-f]{12}) (\d+) (\d+) (\d+) (\d+)")
 LINKS = re.compile(r"  links (\d+)((?: [0-9a-f]{12}){1,4})")
+WHY = re.compile(r"(?:refusal-[1-9]|no-class|class-filter|group-rule|nothing-to-do|none) \d+")
 QUERY = re.compile(r"  query (\d+) (\d+) (\d+) (\d+)")
 
 
@@ -25,6 +28,13 @@ class BenchFault(Exception):
 
 def _odd(line):
     return BenchFault(f"the bench program printed '{line}', which is no line of its trace")
+
+
+def device(address, table):
+    """The device that has this address as a link; the address itself where none has."""
+    if address is None or address in table:
+        return address
+    return next((record.address for record in table.values() if address in record.links), address)
 
 
 def record(text):
@@ -41,6 +51,29 @@ def record(text):
         made = made._replace(links=tuple(map(bytes.fromhex, links[2].split()))) if links else made._replace(
             identifier=int(query[2]), query=int(query[3]), query_left=int(query[4]))
     return made
+
+
+class Reasons:
+    """Takes the lines of `bench why` as they come."""
+
+    def __init__(self):
+        # What stands behind a line's number, read once: there are not many.
+        self.number, self._text, self._known = 0, "", {"none 0": ("none", 0)}
+
+    def take(self, text):
+        """The reasons that are whole by now, each with its value."""
+        *lines, self._text = (self._text + text).split("\n")
+        known, made = self._known, []
+        for line in lines:
+            self.number += 1
+            number, _, rest = line.partition(" ")
+            if number != str(self.number) or not (rest in known or WHY.fullmatch(rest)):
+                raise BenchFault(f"the bench program printed '{line}', which is no line of its reasons")
+            if rest not in known:
+                reason, value = rest.split(" ")
+                known[rest] = reason, int(value)
+            made.append(known[rest])
+        return made
 
 
 class Trace:

@@ -65,10 +65,14 @@ def octets(lines, name):
             put(piece)
 
 
+def playing(lines, command):
+    return stream.played(lines, command + ["trace"], command + ["why"])
+
+
 def tell(lines, name, command, with_table):
     """The transcript; the number of expectations that were not met."""
     teller, pieces, size = Teller(with_table), [], stream.PIECE
-    for line, played in stream.played(lines, command + ["trace"]):
+    for line, played in playing(lines, command):
         pieces.append(teller.line(line, played))
         size += len(pieces[-1])
         if size > stream.PIECE // 4:
@@ -87,7 +91,7 @@ def unmet(name, line, came):
 def check(lines, name, command):
     """Prints only what was not as expected; the number of such lines."""
     teller = Teller()
-    for line, played in stream.played(lines, command + ["trace"]):
+    for line, played in playing(lines, command):
         teller.begin(line)
         came = teller.judge(line, played)
         if came:
@@ -114,7 +118,7 @@ def produce(options, file, command):
             return check(lines, name, command)
         if "--chart" in options:
             from tools.pictures import played  # the pictures are needed here alone
-            return played.write(stream.played(lines, command + ["trace"]), name, options["--chart"])
+            return played.write(playing(lines, command), name, options["--chart"])
         return tell(lines, name, command, "--table" in options)
 
 

@@ -3,6 +3,7 @@
 import collections
 
 from . import codes, frame_words, frames, words as told
+from .because import REASONS
 from .suggest import one_of
 from .values import Fault, number
 
@@ -13,6 +14,7 @@ FORMS = {
     "refused": "refused NUMBER, or refused for any number", "done": "done: not refused",
     "admitted": "admitted", "discarded": "discarded",
     "sends": "sends WORD FIELD=.., or sends nothing", "tells": "tells NOTICE, with status=.. or reason=.., or tells nothing",
+    "because": "because REASON VALUE, or without the value: the rule that decided, as class-filter 2",
     "joined": "joined: the distribution system is told so", "left": "left: the same",
     "reports": "reports KIND PEER, or reports nothing", "nothing": "nothing: no record changes, nothing is sent or told",
     "state": "state PEER NUMBER, or state PEER none without a record", "hold": "hold PEER TU",
@@ -52,6 +54,13 @@ def _tells(words, reader):
     return Expected("tells", (), notice, {"code": code[0]} if code else {})
 
 
+def _because(words, _):
+    if len(words) > 2:
+        raise _wrong("because")
+    reason = one_of(words[0], REASONS, "reason")
+    return Expected("because", (), reason, {"value": number(words[1], reason, 0xFFFFFFFF)} if len(words) > 1 else {})
+
+
 def _reports(words, reader):
     if words[0].lower() == "nothing":
         return Expected("reports")
@@ -88,7 +97,7 @@ def read(words, reader):
         return Expected(word, (), number(rest[0], "refused", 9) if rest else None)
     if not rest:
         raise _wrong(word)
-    several = {"sends": _sends, "tells": _tells, "reports": _reports}
+    several = {"sends": _sends, "tells": _tells, "because": _because, "reports": _reports}
     return several[word](rest, reader) if word in several else _of_peer(word, rest, reader)
 
 
@@ -168,7 +177,12 @@ def _reported(wanted, played, say):
     return "" if met else "; ".join(told.reports(octets, say)) or "nothing is reported"
 
 
-JUDGES = {"refused": _refused, "sends": _sent, "tells": _told, "nothing": _nothing}
+def _decided(wanted, answer, at, say):
+    met = answer.reason == wanted.value and wanted.fields.get("value", answer.value) == answer.value
+    return "" if met else f"{answer.reason} {answer.value}"
+
+
+JUDGES = {"refused": _refused, "sends": _sent, "tells": _told, "nothing": _nothing, "because": _decided}
 
 
 def judge(wanted, played, say):

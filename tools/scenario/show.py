@@ -8,7 +8,12 @@ from .values import visible
 
 INDENT = "    "
 EACH = "each"
-MOST_KEPT = 4096
+MOST_KEPT = 8192
+# Refusals that are told with other records than the peer's; so is refusal 7 of primitive 4.
+OF_OTHERS = (3, 9)
+ELSEWHERE = 7, 4
+# The first octets of data frames: of these nothing further is told.
+DATA = {bench.frame_control(bench.DATA, subtype)[:1] for subtype in range(16)}
 PROTECTION = {0: "management frames not protected", 1: "management frames protected"}
 
 
@@ -122,10 +127,16 @@ class Teller:
         """The words of an event: those told before where an event of this kind did the same."""
         event, answer, before = one
         peer = words.device(event.peer, answer.table)
-        if answer.changed not in ((), (peer,)):
+        others = answer.refusal in OF_OTHERS or (answer.refusal, event.primitive) == ELSEWHERE
+        if others or answer.changed not in ((), (peer,)):
             return self._said(one)
-        what = event.record if event.raw or answer.refusal else event[1:4]
-        key = what, answer[1:10], before.get(peer), answer.table.get(peer)
+        data = event.frame[:1] in DATA
+        whole = event.raw or answer.refusal or answer.reason == "nothing-to-do" and not data
+        what = event.record if whole else (*event[1:4], event.frame[:2], b"" if data else event.frame[24:26])
+        old, new = before.get(peer), answer.table.get(peer)
+        if old and new:
+            old, new = old[2:], new[2:]  # without the place, which is not told then
+        key = what, answer.refusal, answer.value, None if answer.refusal else (answer[2:10], old, new)
         told = self._kept.get(key)
         if told is None:
             if len(self._kept) >= MOST_KEPT:
@@ -138,4 +149,4 @@ class Teller:
         event, answer, before = one
         say = self.names.say
         call = (lambda address: name if address == event.peer else say(address)) if name else say
-        return "\n".join(words.tell(event, answer, before, self.settings.role, call))
+        return "\n".join(words.tell(event, answer, before, self.settings, call))

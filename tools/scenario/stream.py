@@ -9,7 +9,8 @@ import shutil
 import subprocess
 import tempfile
 
-from .answers import BenchFault, Trace
+from .answers import Answer, BenchFault, Reasons, Trace
+from .because import fits
 
 BENCH = [str(pathlib.Path(__file__).resolve().parents[2] / "bench")]
 PIECE = 1 << 16
@@ -90,57 +91,72 @@ class Child:
 class Run:
     """One bench input with its answers: settings, then lines one after the other."""
 
-    def __init__(self, command, settings):
-        self._child, self._trace = Child(command), Trace()
-        self._child.pending += settings.record
-        self._lines, self._answers, self._fed, self._before = collections.deque(), collections.deque(), 0, {}
+    def __init__(self, trace, why, settings):
+        self._children = Child(trace), Child(why)
+        self._read = Trace(), Reasons()
+        for child in self._children:
+            child.pending += settings.record
+        self._lines, self._fed, self._before = collections.deque(), 0, {}
+        # What was read of each child, and not yet told.
+        self._answers, self._reasons = self._got = collections.deque(), collections.deque()
 
     def add(self, line):
         """Takes a line; waits where the program is behind."""
-        for event in line.events:
-            self._child.pending += event.record
+        for child in self._children:
+            for event in line.events:
+                child.pending += event.record
         self._fed += len(line.events)
         self._lines.append(line)
-        while len(self._child.pending) >= PIECE:
-            self._turn(True)
+        for at, child in enumerate(self._children):
+            while len(child.pending) >= PIECE:
+                self._turn(at, True)
 
     def look(self):
         """The lines that are answered by now, each with its events' answers."""
-        self._turn(False)
+        for at in range(len(self._children)):
+            self._turn(at, False)
         return self._answered()
 
     def finish(self):
         """The lines that are left, after the last one."""
-        while not self._child.over:
-            self._turn(True, True)
-            yield from self._answered()
-        self._answers.extend(self._trace.take("", True))
+        for at, child in enumerate(self._children):
+            while not child.over:
+                self._turn(at, True, True)
+                yield from self._answered()
+        self._answers.extend(self._read[0].take("", True))
         yield from self._answered()
-        if self._trace.number != self._fed:
-            raise BenchFault(f"the bench program gave {self._trace.number} answers to {self._fed} events")
+        for read, what in zip(self._read, ("answers", "reasons")):
+            if read.number != self._fed:
+                raise BenchFault(f"the bench program gave {read.number} {what} to {self._fed} events")
 
-    def _turn(self, wait, last=False):
-        text = self._child.turn(wait, last)
+    def _turn(self, at, wait, last=False):
+        text = self._children[at].turn(wait, last)
         if text:
-            self._answers.extend(self._trace.take(text))
+            self._got[at].extend(self._read[at].take(text))
 
     def _answered(self):
-        lines, answers, done = self._lines, self._answers, []
-        while lines and len(lines[0].events) <= len(answers):
+        lines, answers, reasons, done = self._lines, self._answers, self._reasons, []
+        while lines and len(lines[0].events) <= min(len(answers), len(reasons)):
             line, played = lines.popleft(), []
             for event in line.events:
-                answer = answers.popleft()
+                answer, (reason, value) = answers.popleft(), reasons.popleft()
+                if not fits(answer.refusal, answer.verdict, reason):
+                    raise BenchFault(f"the bench program's answer and reason differ at event {answer.number}: {reason}")
+                if reason != "none":
+                    answer = Answer(*answer[:-2], reason, value)
                 played.append((event, answer, self._before))
                 self._before = answer.table
             done.append((line, played))
         return done
 
     def end(self):
-        self._child.end()
+        for child in self._children:
+            child.end()
 
 
-def played(lines, command):
-    """Each line with its events: the event, its answer, and the table before it."""
+def played(lines, trace, why):
+    """Each line with its events: the event, its answer, and the table before it. The program is run twice, for its
+    trace and for its reasons."""
     run = None
     try:
         for count, line in enumerate(lines):
@@ -148,7 +164,7 @@ def played(lines, command):
                 if run:
                     yield from run.finish()
                     run.end()
-                run = Run(command, line.settings)
+                run = Run(trace, why, line.settings)
             if run is None:
                 yield line, []
                 continue

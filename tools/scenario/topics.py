@@ -32,6 +32,10 @@ TOPICS = {
              "is left over is told; over 65,535 TU are several steps.\n\n  clock 100\n  clock 2s\n  clock 1.5min",
     "expect": "expect ..: what the event above must have done; the status is 1 where one is not met\n\n"
               "  expect refused 8\n  expect sends deauth reason=7\n  expect state scanner 4\n  expect hold dock 0",
+    "because": "because: the first rule that decided an event, as 'bench why' gives it, with a value: the length of a frame for\n"
+               "refusal-3, the state of the peer for refusal-7 and class-filter, the hold left for refusal-8, else 0. Reasons:\n"
+               "refusal-1 to refusal-9, no-class, class-filter, group-rule, nothing-to-do, none\n\n"
+               "  expect because class-filter 2\n  expect because refusal-8",
     "own-side": "our own side: the host that the table belongs to; it asks by primitives and is told by notices",
     "broadcast": "broadcast: the address ff:ff:ff:ff:ff:ff",
     "tu": "TU: the time unit of IEEE 802.11, 1,024 microseconds; 2 s are 1,953.125 TU",

@@ -3,6 +3,8 @@
 from tools import bench_input as bench
 
 from . import codes, frame_words, frames, merge
+from .answers import device
+from .because import because
 
 VERDICTS = {"A": "admitted", "D": "discarded"}
 DS = {"J": "joined", "L": "left"}
@@ -123,13 +125,6 @@ def notice(answer, say):
     return text
 
 
-def device(address, table):
-    """The device that has this address as a link; the address itself where none has."""
-    if address is None or address in table:
-        return address
-    return next((record.address for record in table.values() if address in record.links), address)
-
-
 def records(event, answer, before, say):
     """The peer's record, and every other that is not as it was."""
     after = answer.table
@@ -158,28 +153,23 @@ def steps(played, say):
     return reports(octets, say) + others(changed, before, after, say) or ["nothing changes"]
 
 
-def refused(event, answer, role):
-    """Why an event was refused."""
-    return codes.refusal(answer.refusal, event.kind, event.primitive, role)
+def decided(event, answer, before, settings, say):
+    """Whether an event was refused, discarded or let in, and why it was not, or did nothing; '' where there is no verdict."""
+    why = because(event, answer, before, settings, say)
+    if answer.refusal:
+        return f"refused {answer.refusal} because {why}"
+    if why:
+        return f"discarded because {why}" if answer.verdict == "D" else f"admitted, with nothing to do because {why}"
+    return VERDICTS.get(answer.verdict, "")
 
 
-def discarded(answer):
-    """Why a frame was discarded, as far as the reply says it."""
-    found = frames.decode(answer.octets) if answer.octets else None
-    reason = found[1].get("reason") if found else None
-    return f": {codes.REASON[reason]}" if reason in codes.REASON else ""
-
-
-def tell(event, answer, before, role, say):
+def tell(event, answer, before, settings, say):
     """The lines that say what an event did."""
     lines = ["heard as " + frame(event.frame, say)] if event.raw and frames.decode(event.frame) else []
-    if answer.refusal:
-        lines.append(f"refused {answer.refusal}: {refused(event, answer, role)}")
-        if not answer.changed and not answer.octets:
-            lines[-1] += "; nothing changes"
-            return lines
-    if answer.verdict in VERDICTS:
-        lines.append(VERDICTS[answer.verdict])
+    verdict = decided(event, answer, before, settings, say)
+    if answer.refusal and not answer.changed and not answer.octets:
+        return lines + [f"{verdict}; nothing changes"]
+    lines += [verdict] if verdict else []
     if answer.notice:
         lines.append(notice(answer, say))
     if answer.octets:

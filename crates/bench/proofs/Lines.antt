@@ -4,7 +4,11 @@ use Prim.Native.Nat.{ℕ, _≤_}
 use native.Mathlib.Omega.{arith}
 use lib.ListN.{length, length-append}
 use Rattle.table.specs.declared.rules.answer.Answer.{Answer}
+use Rattle.table.specs.declared.rules.why.Reason.{Reason}
+use Rattle.table.specs.declared.rules.why.Reason.the-variants.{None, Refusal, NoClass, ClassFilter, GroupRule, NothingToDo}
+use Rattle.table.specs.declared.rules.why.Why.{Why}
 use Rattle.bench.specs.Line.{frontOf, backOf}
+use Rattle.bench.specs.Why.{refusalWord, whyLine, whyText, wordOf}
 use Rattle.bench.proofs.Digits.{field-length, tens-length}
 
 pub front-length : (n : ℕ) (a : Answer) → length (frontOf n a) ≤ 31
@@ -16,3 +20,16 @@ pub back-length : (a : Answer) → length (backOf a) ≤ 18
 unfolding backOf
 back-length a =
     simp length-append (omega (arith, field-length 5 (a .code), field-length 5 (a .written), tens-length 3 (a .state)))
+
+pub word-length : (r : Reason) → length (wordOf r) ≤ 14
+unfolding refusalWord
+word-length None = omega arith
+word-length (Refusal n) = simp length-append (omega (arith, field-length 3 n))
+word-length NoClass = omega arith
+word-length ClassFilter = omega arith
+word-length GroupRule = omega arith
+word-length NothingToDo = omega arith
+
+pub why-length : (n : ℕ) (w : Why) → length (whyLine n w) ≤ 64
+unfolding whyText
+why-length n w = simp length-append (omega (arith, field-length 20 n, word-length (w .reason), tens-length 20 (w .value)))

@@ -12,6 +12,7 @@ use Rattle.octets.proofs.Branch.{pick-by}
 use Rattle.octets.specs.Links.{noLinks}
 use Rattle.peer.specs.Record.{isFree}
 use Rattle.peer.specs.declared.record.Record.{Record}
+use Rattle.table.specs.Why.{whyOf}
 use Rattle.table.specs.declared.rules.answer.Answer.{Answer}
 use Rattle.table.specs.declared.rules.event.Event.{Event}
 use Rattle.bench.specs.Line.{lineOf, stopLine}
@@ -20,8 +21,10 @@ use Rattle.bench.specs.Play.{numberAfter}
 use Rattle.bench.specs.Printed.{shownBy}
 use Rattle.bench.specs.Run.{playedOf, scratchOf, eventLines, eventOutput}
 use Rattle.bench.specs.Trace.{currentLines, hasQuery, linksLine, linksLines, octetsLines, placeLine, placeLines, queryLine, queryLines, tableLines, traceLines}
+use Rattle.bench.specs.declared.run.Prints.the-variants as prints
+use Rattle.bench.specs.declared.run.Prints.{Prints}
 use Rattle.bench.specs.declared.run.Run.{Run}
-use Rattle.bench.proofs.Lines.{front-length, back-length}
+use Rattle.bench.proofs.Lines.{front-length, back-length, why-length}
 use Rattle.bench.proofs.TraceLines.{octets-line-length, current-line-length, name-length, times-length, query-name-length, query-times-length, links-line-length}
 
 -- No line is longer than the room that it asks for.
@@ -139,11 +142,17 @@ trace-within a s t h g =
 
 -- An event of a table of 32 records.
 module _ (r : Run) (t : List Record) (e : Event) (xs : List ℕ) (h : length (scratchOf r t e xs) ≡ 256) (g : length (playedOf r t e xs .table) ≡ 32) where
-  pub event-within : Within 6848 (eventLines r t e xs)
-  unfolding eventLines shownBy
-  event-within =
+  shown-within : (way : Prints) → Within 6848 (shownBy way (numberAfter (r .number)) (r .settings) t e xs)
+  unfolding shownBy
+  shown-within prints.Lines = one-line _ (line-length (numberAfter (r .number)) (playedOf r t e xs .answer)) (omega arith)
+  shown-within prints.Trace =
       both {m = 64} (one-line _ (line-length (numberAfter (r .number)) (playedOf r t e xs .answer)) (omega arith))
-      (pick-by (Within 6784) (r .trace) (λ b. trace-within (playedOf r t e xs .answer) (scratchOf r t e xs) (playedOf r t e xs .table) h g) (λ b. no-line))
+      (trace-within (playedOf r t e xs .answer) (scratchOf r t e xs) (playedOf r t e xs .table) h g)
+  shown-within prints.Why = one-line _ (why-length (numberAfter (r .number)) (whyOf (r .settings) t e xs 256)) (omega arith)
+
+  pub event-within : Within 6848 (eventLines r t e xs)
+  unfolding eventLines
+  event-within = shown-within (r .prints)
 
   -- What an event adds to the octets to be written out: its lines, whole.
   pub event-pending : (l : List ℕ) → r .out + 6848 ≤ length l → pending (eventOutput r t e xs l) ≡ take (r .out) l ++ said (eventLines r t e xs)

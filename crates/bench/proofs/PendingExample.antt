@@ -29,11 +29,12 @@ use Rattle.bench.specs.Printed.{shownBy}
 use Rattle.bench.specs.Run.{eventLines, eventOutput, playedOf, scratchOf}
 use Rattle.bench.specs.Text.{fieldOf, glyphOf, hexOctet, hexOf, tens}
 use Rattle.bench.specs.Trace.{currentLines, hasQuery, linkText, linksLine, linksLines, nameOf, octetsLines, placeLine, placeLines, queryLines, tableLines, traceLines}
+use Rattle.bench.specs.declared.run.Prints.the-variants as prints
 use Rattle.bench.specs.declared.run.Run.{Run}
 use Rattle.bench.proofs.Pending.{event-pending}
 
 abbrev told : Run
-told = record { settings = asAp; number = 0; at = 0; have = 0; out = 0; first = false; over = false; done = false; trace = true }
+told = record { settings = asAp; number = 0; at = 0; have = 0; out = 0; first = false; over = false; done = false; prints = prints.Trace }
 
 -- 02:00:00:00:00:0c, with the links 02:00:00:00:00:0d and :0e
 abbrev named : List ℕ

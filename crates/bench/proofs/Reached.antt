@@ -13,50 +13,56 @@ use Rattle.bench.specs.Rounds.{Ran, ahead, came, start, taken, went}
 use Rattle.bench.specs.Run.{doneOf, flushedOf, startOf}
 use Rattle.bench.specs.Turn.{Flushed, Refilled, Rounded, TurnOf, Turned, failed, more, on, out, took, unwritten, wanted, written}
 use Rattle.bench.specs.declared.input.Taken.the-variants.{Cut}
+use Rattle.bench.specs.declared.run.Prints.{Prints}
 use Rattle.bench.specs.declared.run.Run.{Run}
 use Rattle.bench.proofs.Whole.{kept}
 
 -- Buffers xs and o and a run r that the rounds lead to, with room for a turn's lines; once it is done, no line is left to be written.
-pub data Reached (trace : Bool) (ts xs o : List ℕ) (r : Run) : Type 0 where
-  ran : {read wrote : List ℕ} → Ran trace ts xs o r read wrote → (r .done ≡ false → r .out + 8192 ≤ length o) → (r .done ≡ true → r .out ≡ 0) → Reached trace ts xs o r
-  broke : r .done ≡ true → Reached trace ts xs o r
+pub data Reached (prints : Prints) (ts xs o : List ℕ) (r : Run) : Type 0 where
+  ran : {read wrote : List ℕ} → Ran prints ts xs o r read wrote → (r .done ≡ false → r .out + 8192 ≤ length o) → (r .done ≡ true → r .out ≡ 0) → Reached prints ts xs o r
+  broke : r .done ≡ true → Reached prints ts xs o r
 
-pub at-first : (trace : Bool) (ts xs o : List ℕ) (r : Run) → ts ≡ replicate 1536 0 → length xs ≡ 65536 → length o ≡ 65536 → r ≡ startOf trace → Reached trace ts xs o r
+pub at-first : (prints : Prints) (ts xs o : List ℕ) (r : Run) → ts ≡ replicate 1536 0 → length xs ≡ 65536 → length o ≡ 65536 → r ≡ startOf prints → Reached prints ts xs o r
 unfolding startOf
-at-first trace ts xs o r z a b e = rw (z, e) (ran (start a b) (λ d. omega arith) (λ d. refl))
+at-first prints ts xs o r z a b e = rw (z, e) (ran (start a b) (λ d. omega arith) (λ d. refl))
+
+-- the same, with what is printed read off the run
+pub at-start : (prints : Prints) (ts xs o : List ℕ) (r : Run) → ts ≡ replicate 1536 0 → length xs ≡ 65536 → length o ≡ 65536 → r ≡ startOf prints → Reached (r .prints) ts xs o r
+unfolding startOf
+at-start prints ts xs o r z a b e = rw e (at-first prints ts xs o (startOf prints) z a b refl)
 
 -- a turn
-data Turns (trace : Bool) (ts xs o : List ℕ) (r : Run) : Type 0 where
-  went-on : {read wrote : List ℕ} → Ran trace ts xs o r read wrote → Turns trace ts xs o r
-  failed-then : r .done ≡ true → Turns trace ts xs o r
+data Turns (prints : Prints) (ts xs o : List ℕ) (r : Run) : Type 0 where
+  went-on : {read wrote : List ℕ} → Ran prints ts xs o r read wrote → Turns prints ts xs o r
+  failed-then : r .done ≡ true → Turns prints ts xs o r
 
-module _ {trace : Bool} {ts xs o : List ℕ} {r : Run} {read wrote : List ℕ} (w : Ran trace ts xs o r read wrote) (d : r .done ≡ false) (room : r .out + 8192 ≤ length o) where
-  refilled : (us ys k : List ℕ) (q : Run) → length ys ≡ length xs → takenOf (ahead xs r) (r .first) ≡ Cut → r .over ≡ false → us ≡ ts → k ≡ o → Refilled xs r ys q → Turns trace us ys k q
+module _ {prints : Prints} {ts xs o : List ℕ} {r : Run} {read wrote : List ℕ} (w : Ran prints ts xs o r read wrote) (d : r .done ≡ false) (room : r .out + 8192 ≤ length o) where
+  refilled : (us ys k : List ℕ) (q : Run) → length ys ≡ length xs → takenOf (ahead xs r) (r .first) ≡ Cut → r .over ≡ false → us ≡ ts → k ≡ o → Refilled xs r ys q → Turns prints us ys k q
   unfolding doneOf
   refilled us ys k q a c v g e (failed f) = failed-then (rw f)
   refilled us ys k q a c v h e (more n f g) = rw (h, e) (went-on (came n w d c v a f g))
 
-  by-turn : (us ys k : List ℕ) (q : Run) → length ys ≡ length xs → length k ≡ length o → Turned (takenOf (ahead xs r) (r .first)) ts xs o r us ys k q → Turns trace us ys k q
+  by-turn : (us ys k : List ℕ) (q : Run) → length ys ≡ length xs → length k ≡ length o → Turned (takenOf (ahead xs r) (r .first)) ts xs o r us ys k q → Turns prints us ys k q
   by-turn us ys k q a b (took f e) = rw e (went-on (taken w d room b f))
   by-turn us ys k q a b (wanted c v f g e) = refilled us ys k q a c v g e f
 
-  turned : (us ys k : List ℕ) (q : Run) → length ys ≡ length xs → length k ≡ length o → TurnOf ts xs o r us ys k q → Turns trace us ys k q
+  turned : (us ys k : List ℕ) (q : Run) → length ys ≡ length xs → length k ≡ length o → TurnOf ts xs o r us ys k q → Turns prints us ys k q
   turned us ys k q a b t = by-turn us ys k q a b (t (kept w .places) (kept w .inside))
 
 -- with room left, or the lines written
-still-on : {trace : Bool} {us ys k : List ℕ} {q : Run} → Turns trace us ys k q → q .done ≡ false → q .out + 8192 ≤ length k → Reached trace us ys k q
+still-on : {prints : Prints} {us ys k : List ℕ} {q : Run} → Turns prints us ys k q → q .done ≡ false → q .out + 8192 ≤ length k → Reached prints us ys k q
 still-on (went-on w) d l = ran w (λ e. l) (λ e. clash e d)
 still-on (failed-then e) d l = broke e
 
-written-out : {trace : Bool} {us ys k : List ℕ} (t q : Run) → 8192 ≤ length k → Turns trace us ys k t → Flushed k t q → Reached trace us ys k q
+written-out : {prints : Prints} {us ys k : List ℕ} (t q : Run) → 8192 ≤ length k → Turns prints us ys k t → Flushed k t q → Reached prints us ys k q
 unfolding flushedOf
 written-out t q l (went-on w) (written h e) = rw e (ran (went w h) (λ d. omega arith) (λ d. refl))
 written-out t q l (failed-then f) (written h e) = broke (rw e f)
 written-out t q l u (unwritten e) = broke (rw e)
 
 -- a round
-pub round-on : {trace : Bool} {ts xs o : List ℕ} {r : Run} (us ys k : List ℕ) (q : Run) → Reached trace ts xs o r → r .done ≡ false → length ys ≡ length xs → length k ≡ length o →
-    length o ≡ 65536 → Rounded ts xs o r us ys k q → Reached trace us ys k q
+pub round-on : {prints : Prints} {ts xs o : List ℕ} {r : Run} (us ys k : List ℕ) (q : Run) → Reached prints ts xs o r → r .done ≡ false → length ys ≡ length xs → length k ≡ length o →
+    length o ≡ 65536 → Rounded ts xs o r us ys k q → Reached prints us ys k q
 round-on us ys k q (broke e) d a b l s = clash e d
 round-on us ys k q (ran w room none) d a b l (on t f g) = still-on (turned w d (room d) us ys k q a b t) f (leb-true (q .out + 8192) (length k) g)
 round-on us ys k q (ran w room none) d a b l (out u t f) = written-out u q (omega arith) (turned w d (room d) us ys k u a b t) f

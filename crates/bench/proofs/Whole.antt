@@ -29,6 +29,7 @@ use Rattle.bench.specs.Run.{aheadOf, begunOf, behindOf, doneOf, endOutpu
 use Rattle.bench.specs.Turn.{Took, refilledOf}
 use Rattle.bench.specs.declared.input.Taken.{Taken}
 use Rattle.bench.specs.declared.input.Taken.the-variants.{Cut, Fault, First, Next}
+use Rattle.bench.specs.declared.run.Prints.{Prints}
 use Rattle.bench.specs.declared.run.Run.{Run}
 use Rattle.bench.proofs.Ahead.{ahead-behind, ahead-length, ahead-more, behind-is, left-is, more-inside}
 use Rattle.bench.proofs.MoreOctets.{cut-short, record-whole}
@@ -42,24 +43,24 @@ abbrev pub standing : List ℕ → Run → Standing
 standing ts r = record { settings = r .settings; table = recordsOf ts; number = r .number; first = r .first }
 
 -- what is printed from there on, where `more` follows the octets at hand: nothing once the run is done
-abbrev pub toCome : Bool → List ℕ → Run → List ℕ → List ℕ → List ℕ
-toCome trace ts r held more = pick (r .done) [] (printedFrom (shownBy trace) 0 (standing ts r) (held ++ more))
+abbrev pub toCome : Prints → List ℕ → Run → List ℕ → List ℕ → List ℕ
+toCome prints ts r held more = pick (r .done) [] (printedFrom (shownBy prints) 0 (standing ts r) (held ++ more))
 
 -- What each round keeps. `law`: what was written, what is pending and what is still to come is what the whole input prints.
-pub record Kept (trace : Bool) (ts xs o : List ℕ) (r : Run) (read wrote : List ℕ) : Type 0 where
-  pub mode : r .trace ≡ trace
+pub record Kept (prints : Prints) (ts xs o : List ℕ) (r : Run) (read wrote : List ℕ) : Type 0 where
+  pub mode : r .prints ≡ prints
   pub places : r .at ≤ r .have
   pub inside : r .have ≤ length xs
   pub table : isTable ts ≡ true
   pub law : (more : List ℕ) → (r .over ≡ true → more ≡ []) →
-      outputOf (shownBy trace) (read ++ more) ≡ wrote ++ (take (r .out) o ++ toCome trace ts r (ahead xs r) more)
+      outputOf (shownBy prints) (read ++ more) ≡ wrote ++ (take (r .out) o ++ toCome prints ts r (ahead xs r) more)
 
 -- the same where a round goes on from r to q, by what it adds to the lines and what it takes from what is to come
-on-to : {trace : Bool} {ts us xs ys o k : List ℕ} {r q : Run} {read wrote : List ℕ} → Kept trace ts xs o r read wrote → q .trace ≡ r .trace → q .over ≡ r .over →
+on-to : {prints : Prints} {ts us xs ys o k : List ℕ} {r q : Run} {read wrote : List ℕ} → Kept prints ts xs o r read wrote → q .prints ≡ r .prints → q .over ≡ r .over →
     q .at ≤ q .have → q .have ≤ length ys → isTable us ≡ true →
-    ((more : List ℕ) → (r .over ≡ true → more ≡ []) → take (r .out) o ++ toCome trace ts r (ahead xs r) more ≡ take (q .out) k ++ toCome trace us q (ahead ys q) more) →
-    Kept trace us ys k q read wrote
-on-to {trace} {ts} {us} {xs} {ys} {o} {k} {r} {q} {read} {wrote} p m v a b t same =
+    ((more : List ℕ) → (r .over ≡ true → more ≡ []) → take (r .out) o ++ toCome prints ts r (ahead xs r) more ≡ take (q .out) k ++ toCome prints us q (ahead ys q) more) →
+    Kept prints us ys k q read wrote
+on-to {prints} {ts} {us} {xs} {ys} {o} {k} {r} {q} {read} {wrote} p m v a b t same =
     record {
       mode = m ∙ p .mode;
       places = a;
@@ -77,15 +78,15 @@ empty-records : recordsOf (replicate 1536 0) ≡ replicate 32 freeOf
 unfolding recordsAt recordOf rowAt exchangeOf queryOf linksAt
 empty-records = refl
 
-started : (trace : Bool) (xs o : List ℕ) → Kept trace (replicate 1536 0) xs o (startOf trace) [] []
+started : (prints : Prints) (xs o : List ℕ) → Kept prints (replicate 1536 0) xs o (startOf prints) [] []
 unfolding startOf
-started trace xs o = record { mode = refl; places = omega arith; inside = omega arith; table = empty-table; law = λ more h. rw empty-records refl }
+started prints xs o = record { mode = refl; places = omega arith; inside = omega arith; table = empty-table; law = λ more h. rw empty-records refl }
 
-module _ {trace : Bool} {ts xs o : List ℕ} {r : Run} {read wrote : List ℕ} (p : Kept trace ts xs o r read wrote) (d : r .done ≡ false) (room : r .out + 8192 ≤ length o) where
+module _ {prints : Prints} {ts xs o : List ℕ} {r : Run} {read wrote : List ℕ} (p : Kept prints ts xs o r read wrote) (d : r .done ≡ false) (room : r .out + 8192 ≤ length o) where
   abbrev w : Shown
-  w = shownBy trace
+  w = shownBy prints
 
-  coming : (more : List ℕ) → toCome trace ts r (ahead xs r) more ≡ printedFrom w 0 (standing ts r) (ahead xs r ++ more)
+  coming : (more : List ℕ) → toCome prints ts r (ahead xs r) more ≡ printedFrom w 0 (standing ts r) (ahead xs r ++ more)
   coming more = rw d
 
   -- the end of the input
@@ -103,7 +104,7 @@ module _ {trace : Bool} {ts xs o : List ℕ} {r : Run} {read wrote : List ℕ} (
       (λ e. eq-eqb (length (ahead xs r)) 0 (omega (arith, l, eqb-true (r .at) (r .have) e)) ∙ sym e)
       (λ e. ne-eqb (length (ahead xs r)) 0 (λ z. clash (eq-eqb (r .at) (r .have) (omega (arith, l, z, p .places))) e) ∙ sym e)
 
-  ended : takenOf (ahead xs r) (r .first) ≡ Cut → r .over ≡ true → Kept trace ts xs (endOutput r o .octets) (doneOf r (endOutput r o .filled)) read wrote
+  ended : takenOf (ahead xs r) (r .first) ≡ Cut → r .over ≡ true → Kept prints ts xs (endOutput r o .octets) (doneOf r (endOutput r o .filled)) read wrote
   unfolding doneOf
   ended t v =
       on-to p refl refl (p .places) (p .inside) (p .table)
@@ -112,7 +113,7 @@ module _ {trace : Bool} {ts xs o : List ℕ} {r : Run} {read wrote : List ℕ} (
       ap (λ (l : List ℕ). take (r .out) o ++ l) (coming more ∙ rw (e, append-nil (ahead xs r)) (print-cut w (standing ts r) (ahead xs r) t ∙ ap (λ (b : Bool). pick b [] stopLine) none-left))
       ∙ sym (append-nil (pending (endOutput r o)) ∙ end-pending))
 
-  stopped : takenOf (ahead xs r) (r .first) ≡ Fault → Kept trace ts xs (stopOutput r o .octets) (doneOf r (stopOutput r o .filled)) read wrote
+  stopped : takenOf (ahead xs r) (r .first) ≡ Fault → Kept prints ts xs (stopOutput r o .octets) (doneOf r (stopOutput r o .filled)) read wrote
   unfolding doneOf
   stopped t =
       on-to p refl refl (p .places) (p .inside) (p .table)
@@ -131,7 +132,7 @@ module _ {trace : Bool} {ts xs o : List ℕ} {r : Run} {read wrote : List ℕ} (
     passed : aheadOf next (r .have) xs ≡ drop size (ahead xs r)
     passed = ahead-behind (r .at) (r .have) xs (p .places) (p .inside) size z
 
-  begun : (s : Settings) → takenOf (ahead xs r) (r .first) ≡ First s → Kept trace ts xs o (begunOf r s (sizeOf (ahead xs r))) read wrote
+  begun : (s : Settings) → takenOf (ahead xs r) (r .first) ≡ First s → Kept prints ts xs o (begunOf r s (sizeOf (ahead xs r))) read wrote
   unfolding begunOf
   begun s t =
       let z : sizeOf (ahead xs r) ≤ length (ahead xs r) = record-whole (ahead xs r) (r .first) (rw t) in
@@ -141,7 +142,7 @@ module _ {trace : Bool} {ts xs o : List ℕ} {r : Run} {read wrote : List ℕ} (
       (coming more ∙ (print-first w (standing ts r) (ahead xs r) more s t ∙ rw (d, passed (sizeOf (ahead xs r)) z))))
 
   played : (e : Event) (us : List ℕ) → takenOf (ahead xs r) (r .first) ≡ Next e → Trip (r .settings) ts e (bodyOf (ahead xs r)) us →
-      Kept trace us xs (eventOutput r (recordsOf ts) e (bodyOf (ahead xs r)) o .octets) (eventOf r (recordsOf ts) e (bodyOf (ahead xs r)) (sizeOf (ahead xs r)) o) read wrote
+      Kept prints us xs (eventOutput r (recordsOf ts) e (bodyOf (ahead xs r)) o .octets) (eventOf r (recordsOf ts) e (bodyOf (ahead xs r)) (sizeOf (ahead xs r)) o) read wrote
   unfolding eventOf eventLines said printedFrom eventOutput
   played e us t n =
       let z : sizeOf (ahead xs r) ≤ length (ahead xs r) = record-whole (ahead xs r) (r .first) (rw t) in
@@ -157,7 +158,7 @@ module _ {trace : Bool} {ts xs o : List ℕ} {r : Run} {read wrote : List ℕ} (
       ∙ (sym (append-assoc (take (r .out) o) text rest)
       ∙ rw (d, passed (sizeOf (ahead xs r)) z, lines, p .mode, n .records)))
 
-  by-taken : (t : Taken) (us k : List ℕ) (q : Run) → takenOf (ahead xs r) (r .first) ≡ t → Took t (ahead xs r) ts o r us k q → Kept trace us xs k q read wrote
+  by-taken : (t : Taken) (us k : List ℕ) (q : Run) → takenOf (ahead xs r) (r .first) ≡ t → Took t (ahead xs r) ts o r us k q → Kept prints us xs k q read wrote
   by-taken Cut us k q t f = rw (f .0, f .2, f .3) (ended t (f .1))
   by-taken Fault us k q t f = rw (f .0, f .1, f .2) (stopped t)
   by-taken (First s) us k q t f = rw (f .0, f .1, f .2) (begun s t)
@@ -166,11 +167,11 @@ module _ {trace : Bool} {ts xs o : List ℕ} {r : Run} {read wrote : List ℕ} (
       rw (g .0, g .1) (played e us t (trip (r .settings) ts e (bodyOf (ahead xs r)) us (p .table) (f .2) (f .3) (f .0)))
 
 -- a read
-more-came : {trace : Bool} {ts xs o ys : List ℕ} {r : Run} {read wrote : List ℕ} (n : ℕ) → Kept trace ts xs o r read wrote → r .done ≡ false → r .over ≡ false →
+more-came : {prints : Prints} {ts xs o ys : List ℕ} {r : Run} {read wrote : List ℕ} (n : ℕ) → Kept prints ts xs o r read wrote → r .done ≡ false → r .over ≡ false →
     length ys ≡ length xs → take (left xs r) ys ≡ take (left xs r) (shiftedOf (r .at) (r .have) xs) →
-    Kept trace ts ys o (refilledOf r (length xs) n) (read ++ aheadOf (left xs r) (behindOf (left xs r) n (length xs)) ys) wrote
+    Kept prints ts ys o (refilledOf r (length xs) n) (read ++ aheadOf (left xs r) (behindOf (left xs r) n (length xs)) ys) wrote
 unfolding refilledOf
-more-came {trace} {ts} {xs} {o} {ys} {r} {read} {wrote} n p d v e k =
+more-came {prints} {ts} {xs} {o} {ys} {r} {read} {wrote} n p d v e k =
     let piece = aheadOf (left xs r) (behindOf (left xs r) n (length xs)) ys in
     let both = ahead-more (r .at) (r .have) xs (p .places) (p .inside) ys n e k in
     record {
@@ -179,15 +180,15 @@ more-came {trace} {ts} {xs} {o} {ys} {r} {read} {wrote} n p d v e k =
       inside = more-inside (r .at) (r .have) xs (p .places) (p .inside) ys n e k;
       table = p .table;
       law = λ more h.
-          ap (outputOf (shownBy trace)) (append-assoc read piece more)
+          ap (outputOf (shownBy prints)) (append-assoc read piece more)
           ∙ (p .law (piece ++ more) (λ z. clash z v)
           ∙ rw (d, both, append-assoc (ahead xs r) piece more));
     }
 
 -- a write
-lines-went : {trace : Bool} {ts xs o : List ℕ} {r : Run} {read wrote : List ℕ} → Kept trace ts xs o r read wrote → Kept trace ts xs o (flushedOf r (r .done)) read (wrote ++ take (r .out) o)
+lines-went : {prints : Prints} {ts xs o : List ℕ} {r : Run} {read wrote : List ℕ} → Kept prints ts xs o r read wrote → Kept prints ts xs o (flushedOf r (r .done)) read (wrote ++ take (r .out) o)
 unfolding flushedOf
-lines-went {trace} {ts} {xs} {o} {r} {read} {wrote} p =
+lines-went {prints} {ts} {xs} {o} {r} {read} {wrote} p =
     record {
       mode = p .mode;
       places = p .places;
@@ -196,7 +197,7 @@ lines-went {trace} {ts} {xs} {o} {r} {read} {wrote} p =
       law = λ more h. p .law more h ∙ sym (append-assoc wrote (take (r .out) o) _);
     }
 
-pub kept : {trace : Bool} {ts xs o : List ℕ} {r : Run} {read wrote : List ℕ} → Ran trace ts xs o r read wrote → Kept trace ts xs o r read wrote
+pub kept : {prints : Prints} {ts xs o : List ℕ} {r : Run} {read wrote : List ℕ} → Ran prints ts xs o r read wrote → Kept prints ts xs o r read wrote
 unfolding refilledOf
 kept (start {xs} {o} a b) = started _ xs o
 kept (taken {us = us} {k = k} {q = q} p d room l f) = by-taken (kept p) d room _ us k q refl f
@@ -205,13 +206,13 @@ kept (went p l) = lines-went (kept p)
 
 -- THE THEOREM. The program is done: what it wrote is what the whole input prints, the octets read and any that it did not read; after the end of
 -- the input there are none. (What it asks for is met: `run_all` keeps to such rounds, proofs/Reached.antt.)
-pub whole-output : {trace : Bool} {ts xs o : List ℕ} {r : Run} {read wrote : List ℕ} → Ran trace ts xs o r read wrote → r .done ≡ true →
-    (rest : List ℕ) → (r .over ≡ true → rest ≡ []) → wrote ++ take (r .out) o ≡ outputOf (shownBy trace) (read ++ rest)
-whole-output {trace} {ts} {xs} {o} {r} {read} {wrote} p d rest h =
+pub whole-output : {prints : Prints} {ts xs o : List ℕ} {r : Run} {read wrote : List ℕ} → Ran prints ts xs o r read wrote → r .done ≡ true →
+    (rest : List ℕ) → (r .over ≡ true → rest ≡ []) → wrote ++ take (r .out) o ≡ outputOf (shownBy prints) (read ++ rest)
+whole-output {prints} {ts} {xs} {o} {r} {read} {wrote} p d rest h =
     sym (kept p .law rest h ∙ rw d (ap (λ (l : List ℕ). wrote ++ l) (append-nil (take (r .out) o))))
 
 -- At each read at most 4,100 octets of the buffer are in use: so a read that gives none is the end of the input, not a lack of room.
-pub room-to-read : {trace : Bool} {ts xs o : List ℕ} {r : Run} {read wrote : List ℕ} → Ran trace ts xs o r read wrote → takenOf (ahead xs r) (r .first) ≡ Cut → left xs r ≤ 4100
+pub room-to-read : {prints : Prints} {ts xs o : List ℕ} {r : Run} {read wrote : List ℕ} → Ran prints ts xs o r read wrote → takenOf (ahead xs r) (r .first) ≡ Cut → left xs r ≤ 4100
 room-to-read {xs = xs} {r = r} p t =
     let k = kept p in
     omega (arith, left-is (r .at) (r .have) xs (k .places) (k .inside), ahead-length (r .at) (r .have) xs (k .places) (k .inside), cut-short (ahead xs r) (r .first) t)

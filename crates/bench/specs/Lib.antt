@@ -1,4 +1,5 @@
 pub mod Text
+pub mod Why
 pub mod Output
 pub mod Line
 pub mod Input

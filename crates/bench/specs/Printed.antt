@@ -12,24 +12,31 @@ use Rattle.peer.specs.declared.record.Record.{Record}
 use Rattle.peer.specs.declared.settings.Settings.{Settings}
 use Rattle.table.specs.Boundary.{noSettings}
 use Rattle.table.specs.Step.{stepOf, stepIn}
+use Rattle.table.specs.Why.{whyOf}
 use Rattle.table.specs.declared.rules.event.Event.{Event}
 use Rattle.bench.specs.Input.{bodyOf, takenOf}
 use Rattle.bench.specs.Line.{lineOf, stopLine}
 use Rattle.bench.specs.Output.{Line, short, said}
 use Rattle.bench.specs.Play.{zeros, numberAfter}
 use Rattle.bench.specs.Trace.{traceLines}
+use Rattle.bench.specs.Why.{whyLine}
 use Rattle.bench.specs.declared.input.Taken.{Taken}
 use Rattle.bench.specs.declared.input.Taken.the-variants.{Cut, Fault, First, Next}
+use Rattle.bench.specs.declared.run.Prints.the-variants as prints
+use Rattle.bench.specs.declared.run.Prints.{Prints}
 
 -- What is printed of an event: its lines, by its number, the settings, the table before it, the event, and the octets beside it.
 abbrev pub Shown : Type 0
 Shown = ℕ → Settings → List Record → Event → List ℕ → List Line
 
--- "one line an event"; "the output scratch is 256 zero bytes for each event". Behind it, where it is traced, the lines of the trace.
-unfoldable pub shownBy : Bool → Shown
-shownBy trace n s t e xs =
+-- "one line an event"; "the output scratch is 256 zero bytes for each event". Behind it, where it is traced, the lines of the trace. 02, K4: or why it came
+-- to that, in place of its line.
+unfoldable pub shownBy : Prints → Shown
+shownBy prints.Lines n s t e xs = short (lineOf n (stepOf s t e xs 256 .answer)) ∷ []
+shownBy prints.Trace n s t e xs =
     short (lineOf n (stepOf s t e xs 256 .answer)) ∷
-    pick trace (traceLines (stepOf s t e xs 256 .answer) (stepIn s t e xs zeros) (stepOf s t e xs 256 .table)) []
+    traceLines (stepOf s t e xs 256 .answer) (stepIn s t e xs zeros) (stepOf s t e xs 256 .table)
+shownBy prints.Why n s t e xs = short (whyLine n (whyOf s t e xs 256)) ∷ []
 
 -- Between two records: the settings, the table, the number of the last event; and whether no record came yet.
 pub record Standing : Type 0 where
@@ -78,12 +85,15 @@ printedFrom w zero s (x ∷ xs) =
     said (w (numberAfter (s .number)) (s .settings) (s .table) e (bodyOf (x ∷ xs)))
     ++ printedFrom w (behindFirst (x ∷ xs)) (playedOn s e (bodyOf (x ∷ xs))) xs)
 
--- The output of `bench`, and of `bench trace`.
+-- The output of `bench`, of `bench trace`, and of `bench why`.
 abbrev pub outputOf : Shown → List ℕ → List ℕ
 outputOf w xs = printedFrom w 0 atStart xs
 
 abbrev pub benchOutput : List ℕ → List ℕ
-benchOutput xs = outputOf (shownBy false) xs
+benchOutput xs = outputOf (shownBy prints.Lines) xs
 
 abbrev pub traceOutput : List ℕ → List ℕ
-traceOutput xs = outputOf (shownBy true) xs
+traceOutput xs = outputOf (shownBy prints.Trace) xs
+
+abbrev pub whyOutput : List ℕ → List ℕ
+whyOutput xs = outputOf (shownBy prints.Why) xs

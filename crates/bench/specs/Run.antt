@@ -15,11 +15,12 @@ use Rattle.bench.specs.Line.{stopLine}
 use Rattle.bench.specs.Output.{Output, Line, short, upTo, putOf, putAll}
 use Rattle.bench.specs.Play.{zeros, numberAfter}
 use Rattle.bench.specs.Printed.{shownBy}
+use Rattle.bench.specs.declared.run.Prints.{Prints}
 use Rattle.bench.specs.declared.run.Run.{Run}
 
 -- No event yet, both buffers empty.
-unfoldable pub startOf : Bool → Run
-startOf trace =
+unfoldable pub startOf : Prints → Run
+startOf prints =
     record {
       settings = record { own = 0; network = 0; authentication = 0; association = 0; role = 0; rsna = 0; edition = 0; protection = 0; retry = 0; maximum = 0 };
       number = 0;
@@ -29,7 +30,7 @@ startOf trace =
       first = true;
       over = false;
       done = false;
-      trace = trace;
+      prints = prints;
     }
 
 -- Where one stands n octets behind `at`, of `have`; never past the end.
@@ -48,7 +49,7 @@ begunOf r s size =
       first = false;
       over = r .over;
       done = r .done;
-      trace = r .trace;
+      prints = r .prints;
     }
 
 -- An event, played on the records t: the step of the table, lent 256 octets. "the output scratch is 256 zero bytes for each event"
@@ -60,7 +61,7 @@ scratchOf r t e frame = stepIn (r .settings) t e frame zeros
 
 -- The lines of an event (Printed.antt), which has the next number, on the records t.
 unfoldable pub eventLines : Run → List Record → Event → List ℕ → List Line
-eventLines r t e frame = shownBy (r .trace) (numberAfter (r .number)) (r .settings) t e frame
+eventLines r t e frame = shownBy (r .prints) (numberAfter (r .number)) (r .settings) t e frame
 
 -- The output buffer l after it: its lines behind those that are there.
 unfoldable pub eventOutput : Run → List Record → Event → List ℕ → List ℕ → Output
@@ -78,7 +79,7 @@ eventOf r t e frame size l =
       first = r .first;
       over = r .over;
       done = r .done;
-      trace = r .trace;
+      prints = r .prints;
     }
 
 -- The lines were handed on to be written, and the run goes on or is done; nothing else changes.
@@ -93,7 +94,7 @@ flushedOf r done =
       first = r .first;
       over = r .over;
       done = done;
-      trace = r .trace;
+      prints = r .prints;
     }
 
 -- The run is done; the first n octets of the output buffer are still to be written.
@@ -108,7 +109,7 @@ doneOf r n =
       first = r .first;
       over = r .over;
       done = true;
-      trace = r .trace;
+      prints = r .prints;
     }
 
 -- "prints `stop` and ends": the output buffer l after it. At the end of the input it is so where an octet is left: "a cut record".

@@ -31,7 +31,7 @@ refilledOf r len n =
       first = r .first;
       over = eqb n 0;
       done = r .done;
-      trace = r .trace;
+      prints = r .prints;
     }
 
 -- A read: it failed, and the run is done; or some octets stand behind those left, which moved to the front of the input buffer.

@@ -7,19 +7,23 @@ mod run;
 mod show;
 mod text;
 mod trace;
+mod ways;
+mod why;
 
+use run::Prints;
 use run::Run;
 use run::round;
 ghost use mathlib.Core.Path.{_≡_};
 ghost use Rattle.bench.specs.Text.{isTrace};
+ghost use Rattle.bench.specs.Why.{isWhy};
 
 // A proved loop has to end, and nothing says that an input does: so the turns are counted down from a number that no run uses up.
-fn run_all(trace: bool) {
+fn run_all(prints: Prints) {
     // The table, empty: every octet zero.
     let mut table = [0u8; 1536];
     let mut input = [0u8; 65536];
     let mut output = [0u8; 65536];
-    let mut r = Run::new(trace);
+    let mut r = Run::new(prints);
     let mut turns = u64::MAX;
     while turns > 0 {
         if r.done {
@@ -34,6 +38,7 @@ fn run_all(trace: bool) {
 enum Mode {
     Plain,
     Trace,
+    Why,
     Unknown,
 }
 
@@ -59,6 +64,22 @@ fn is_trace(word: &[u8]) -> bool
     word[4] == b'e'
 }
 
+// Whether a word is `why`.
+fn is_why(word: &[u8]) -> bool
+    ensures { λ r. ⌜ r ≡ isWhy (now (word .entry)) ⌝ }
+{
+    if word.len() != 3 {
+        return false;
+    }
+    if word[0] != b'w' {
+        return false;
+    }
+    if word[1] != b'h' {
+        return false;
+    }
+    word[2] == b'y'
+}
+
 fn asked_mode() -> Mode {
     let count = os::arg_count();
     if count <= 1 {
@@ -70,7 +91,10 @@ fn asked_mode() -> Mode {
     let mut word = [0u8; 64];
     let n = os::arg(1, &mut word);
     if is_trace(&word[..n]) {
-        Mode::Trace
+        return Mode::Trace;
+    }
+    if is_why(&word[..n]) {
+        Mode::Why
     } else {
         Mode::Unknown
     }
@@ -79,12 +103,13 @@ fn asked_mode() -> Mode {
 fn main() {
     let m = asked_mode();
     match m {
-        Mode::Plain => run_all(false),
-        Mode::Trace => run_all(true),
+        Mode::Plain => run_all(Prints::Lines),
+        Mode::Trace => run_all(Prints::Trace),
+        Mode::Why => run_all(Prints::Why),
         Mode::Unknown => {
             io::write_all(
                 libc::STDERR_FILENO,
-                b"bench: unknown argument: 'trace', or none, with the records on standard input\n",
+                b"bench: unknown argument: 'trace', 'why', or none, with the records on standard input\n",
             );
         }
     }

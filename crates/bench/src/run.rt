@@ -4,13 +4,11 @@ use crate::input::body;
 use crate::input::record_length;
 use crate::input::shift;
 use crate::input::take;
-use crate::lent::lent_play;
-use crate::line::write_line;
 use crate::line::write_stop;
-use crate::rows::play;
-use crate::rows::records_in;
-use crate::show::traced;
 use crate::text::has_room;
+use crate::ways::explained;
+use crate::ways::plain;
+use crate::ways::traced_event;
 use libc::STDIN_FILENO;
 use libc::STDOUT_FILENO;
 use peer::settings::Settings;
@@ -19,15 +17,22 @@ ghost use mathlib.Core.Path.{_≡_};
 ghost use Prim.Native.Nat.{ℕ};
 ghost use mathlib.Core.Bool.{true};
 ghost use mathlib.Core.List.{List};
-ghost use Rattle.table.specs.Host.{hostAnswer, hostTable};
+ghost use Rattle.table.specs.Host.{hostTable};
 ghost use Rattle.table.specs.Rows.{isTable, recordsOf};
-ghost use Rattle.bench.specs.Line.{lineOf};
-ghost use Rattle.bench.specs.Output.{putAll, putOf, short, upTo};
 ghost use Rattle.bench.specs.Play.{zeros, numberAfter};
-ghost use Rattle.bench.specs.Run.{startOf, behindOf, begunOf, doneOf, eventOf, eventOutput, playedOf, scratchOf, stopOutput};
-ghost use Rattle.bench.specs.Trace.{traceLines};
+ghost use Rattle.bench.specs.Run.{startOf, behindOf, begunOf, doneOf, eventOf, eventOutput, stopOutput};
 ghost use Rattle.bench.specs.Turn.{Flushed, Made, Refilled, Rounded, Turned, TurnOf};
 ghost use Rattle.bench.specs.declared.input.Taken.the-variants.{Cut};
+
+// What is printed of an event.
+pub enum Prints {
+    // Its line.
+    Lines,
+    // Its line, and what a trace shows behind it.
+    Trace,
+    // Why it came to that, in place of its line (02, K4).
+    Why,
+}
 
 // Where a run stands. Of the input buffer the octets from `at` to `have` are still to be taken; of the output buffer the first `out` are
 // lines still to be written.
@@ -42,12 +47,12 @@ pub struct Run {
     // The input came to its end.
     pub over: bool,
     pub done: bool,
-    pub trace: bool,
+    pub prints: Prints,
 }
 
 impl Run {
-    pub fn new(trace: bool) -> Run
-        ensures { λ q. ⌜ q ≡ startOf trace ⌝ }
+    pub fn new(prints: Prints) -> Run
+        ensures { λ q. ⌜ q ≡ startOf prints ⌝ }
     {
         Run {
             settings: Settings {
@@ -69,7 +74,7 @@ impl Run {
             first: true,
             over: false,
             done: false,
-            trace,
+            prints,
         }
     }
 }
@@ -168,34 +173,6 @@ fn counted(n: u64) -> u64
     if n == u64::MAX { n } else { n + 1 }
 }
 
-// The line of an event, played in place; gives where the next line goes.
-fn plain(table: &mut [u8], output: &mut [u8], r: Run, number: u64, e: Event, frame: &[u8]) -> usize
-    ensures { λ n. ⌜ (now (table .exit) ≡ hostTable (now (table .entry)) (r .settings) e (now (frame .entry)) zeros) × (upTo (now (output .exit)) n ≡ putOf (short (lineOf number (hostAnswer (now (table .entry)) (r .settings) e (now (frame .entry)) zeros))) (upTo (now (output .entry)) (r .out))) ⌝ }
-{
-    let answer = play(table, r.settings, e, frame);
-    write_line(output, r.out, number, answer)
-}
-
-// The same, with what a trace shows behind it. The lines come from the records lent, the table from the octets: two ways to hold it.
-fn traced_event(
-    table: &mut [u8],
-    output: &mut [u8],
-    r: Run,
-    number: u64,
-    e: Event,
-    frame: &[u8],
-) -> usize
-    ensures { λ n. ⌜ (now (table .exit) ≡ hostTable (now (table .entry)) (r .settings) e (now (frame .entry)) zeros) × (upTo (now (output .exit)) n ≡ putAll (traceLines (playedOf r (recordsOf (now (table .entry))) e (now (frame .entry)) .answer) (scratchOf r (recordsOf (now (table .entry))) e (now (frame .entry))) (playedOf r (recordsOf (now (table .entry))) e (now (frame .entry)) .table)) (putOf (short (lineOf number (playedOf r (recordsOf (now (table .entry))) e (now (frame .entry)) .answer))) (upTo (now (output .entry)) (r .out)))) ⌝ }
-{
-    let p = lent_play(r.settings, records_in(&*table), e, frame);
-    play(table, r.settings, e, frame);
-    let answer = p.answer;
-    let scratch = p.scratch;
-    let after = p.table;
-    let at = write_line(&mut *output, r.out, number, answer);
-    traced(output, at, answer, scratch, after)
-}
-
 // An event was taken: it is played, and its lines go to the output. The record has `size` octets, its body is `frame`.
 fn event(table: &mut [u8], output: &mut [u8], r: Run, e: Event, frame: &[u8], size: usize) -> Run
     ensures { λ q. ⌜ (now (table .exit) ≡ hostTable (now (table .entry)) (r .settings) e (now (frame .entry)) zeros) × (isTable (now (table .entry)) ≡ true → (q ≡ eventOf r (recordsOf (now (table .entry))) e (now (frame .entry)) size (now (output .entry))) × (now (output .exit) ≡ eventOutput r (recordsOf (now (table .entry))) e (now (frame .entry)) (now (output .entry)) .octets)) × (Made (now (table .entry))) × (Made (now (frame .entry))) ⌝ }
@@ -204,12 +181,21 @@ fn event(table: &mut [u8], output: &mut [u8], r: Run, e: Event, frame: &[u8], si
     let mut next = r;
     next.number = number;
     next.at = behind(r.at, size, r.have);
-    if r.trace {
-        next.out = traced_event(table, output, r, number, e, frame);
-        return next;
+    let prints = r.prints;
+    match prints {
+        Prints::Lines => {
+            next.out = plain(table, output, r, number, e, frame);
+            next
+        }
+        Prints::Trace => {
+            next.out = traced_event(table, output, r, number, e, frame);
+            next
+        }
+        Prints::Why => {
+            next.out = explained(table, output, r, number, e, frame);
+            next
+        }
     }
-    next.out = plain(table, output, r, number, e, frame);
-    next
 }
 
 // One record, or more input.

@@ -17,3 +17,7 @@ answerBytes current code written refusal verdict notice ds state =
 unfoldable pub answerWritten : List ℕ → ℕ → ℕ → ℕ → ℕ → ℕ → ℕ → ℕ → ℕ → List ℕ
 answerWritten l current code written refusal verdict notice ds state =
     pick (ltb (length l) 24) l (sets l 0 (answerBytes current code written refusal verdict notice ds state))
+
+-- 02, K4: the value beside a reason, as it crosses: 8 octets, little-endian, at the front of those lent for it; where they are too few, they stay.
+unfoldable pub valueWritten : List ℕ → ℕ → List ℕ
+valueWritten l value = pick (ltb (length l) 8) l (sets l 0 (octets 8 value))

@@ -7,7 +7,7 @@ ghost use mathlib.Core.Path.{_≡_};
 ghost use Prim.Native.Nat.{_≤_};
 ghost use lib.ListN.{length};
 ghost use Rattle.octets.specs.Stored.{Stored};
-ghost use Rattle.octets.specs.Answer.{answerBytes, answerWritten};
+ghost use Rattle.octets.specs.Answer.{answerBytes, answerWritten, valueWritten};
 
 // The numbers one behind the other. The state has eight octets, so that each of the 24 is written.
 fn put_answer(
@@ -62,4 +62,14 @@ pub fn write_answer(
         ds,
         state,
     );
+}
+
+// Writes the value that stands beside a reason at the front of the octets lent for it; where they are too few, nothing.
+pub fn write_value(out: &mut [u8], value: u64)
+    ensures { λ _. ⌜ now (out .exit) ≡ valueWritten (now (out .entry)) value ⌝ }
+{
+    if out.len() < 8 {
+        return;
+    }
+    put_u64(out, 0, value);
 }

@@ -14,6 +14,7 @@ pub mod EditionsAlike
 pub mod LawsOfUse
 pub mod ErrorsThatLookRight
 pub mod AdHoc
+pub mod Effects
 pub mod Sent
 pub mod AskSaid
 pub mod Spoken

@@ -13,6 +13,7 @@ pub mod Farewell
 pub mod Challenge
 pub mod Association
 pub mod Hear
+pub mod Idle
 pub mod Refuse
 pub mod Ask
 pub mod Tick

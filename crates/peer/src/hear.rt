@@ -23,7 +23,7 @@ ghost use Rattle.octets.specs.declared.heard.Heard.the-variants as heard;
 ghost use Rattle.peer.specs.Hear.{actOf, groupHeard, hearOf, isExchange, isQuery};
 
 // Whether what is heard is part of an exchange: management subtypes 0 to 3 and 11.
-fn is_exchange(h: Heard) -> bool
+pub(crate) fn is_exchange(h: Heard) -> bool
     ensures { λ r. ⌜ r ≡ isExchange h ⌝ }
 {
     match h {
@@ -38,7 +38,7 @@ fn is_exchange(h: Heard) -> bool
     }
 }
 
-fn is_query(h: Heard) -> bool
+pub(crate) fn is_query(h: Heard) -> bool
     ensures { λ r. ⌜ r ≡ isQuery h ⌝ }
 {
     match h {

@@ -9,6 +9,7 @@ pub mod farewell;
 pub mod filter;
 pub mod fit;
 pub mod hear;
+pub mod idle;
 pub mod moves;
 pub mod query;
 pub mod record;

@@ -8,6 +8,7 @@ pub mod Surveys
 pub mod LinkSurveys
 pub mod HostLaws
 pub mod BoundaryLaws
+pub mod WhyLaws
 pub mod CallsInRow
 pub mod JoinedCalls
 pub mod JoinedCallsExamples

@@ -17,6 +17,13 @@ pub mod StepKeeps
 pub mod Links
 pub mod LinkFrames
 pub mod DiscardLeaves
+pub mod WhyFrames
+pub mod WhyDeeds
+pub mod WhyExactly
+pub mod WhyCases
+pub mod WhyTurns
+pub mod WhyExplains
+pub mod WhyExamples
 pub mod Editions
 pub mod EditionsAlike
 pub mod Forged

@@ -14,9 +14,11 @@ pub mod Lent
 pub mod Rows
 pub mod Host
 pub mod Boundary
+pub mod Why
 pub mod Case
 pub mod Marked
 pub mod Exactly
+pub mod Reasons
 pub mod Written
 pub mod Order
 pub mod Meant

@@ -9,3 +9,4 @@ pub mod places;
 pub mod receive;
 pub mod seat;
 pub mod step;
+pub mod why;

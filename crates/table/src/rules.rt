@@ -9,3 +9,4 @@ pub mod pass;
 pub mod read;
 pub mod receive;
 pub mod seat;
+pub mod why;

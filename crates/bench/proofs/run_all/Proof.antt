@@ -3,21 +3,21 @@
 use borrow.Author.Needs.{needs}
 use lib.ListN.{length}
 use mathlib.Core.Path.{_≡_, refl}
-use Rattle.bench.proofs.Reached.{Reached, at-first, round-on}
+use Rattle.bench.proofs.Reached.{Reached, at-start, round-on}
 use Rattle.bench.proofs.run_all.Statement.{statement}
 use Rattle.bench.proofs.run_all.Tie as tie
 
 abbrev Inv-loop : tie.InvT-loop
-Inv-loop trace table₀ input₀ output₀ r₀ turns₀ table input output r turns = (length table ≡ 1536) × (length input ≡ 65536) × (length output ≡ 65536) × (Reached trace table input output r)
+Inv-loop table₀ input₀ output₀ r₀ turns₀ table input output r turns = (length table ≡ 1536) × (length input ≡ 65536) × (length output ≡ 65536) × (Reached (r₀ .prints) table input output r)
 
 abbrev μ-loop : tie.MeasureT-loop
-μ-loop trace table₀ input₀ output₀ r₀ turns₀ table input output r turns = turns
+μ-loop table₀ input₀ output₀ r₀ turns₀ table input output r turns = turns
 
 new-requires : tie.Need-new-requires Inv-loop μ-loop
 new-requires c κs = search needs
 
 loop-holds : tie.Need-loop-holds Inv-loop μ-loop
-loop-holds c = (search needs, search needs, search needs, at-first _ _ _ _ _ refl refl refl (c .new .ensures))
+loop-holds c = (search needs, search needs, search needs, at-start _ _ _ _ _ refl refl refl (c .new .ensures))
 
 returns : tie.Need-returns Inv-loop μ-loop
 returns c = search needs

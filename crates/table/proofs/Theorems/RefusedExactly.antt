@@ -71,7 +71,7 @@ first-exactly l k = record {
 abbrev Below : List (ℕ × Bool) → Type 0
 Below l = allOf (λ r. leb (r .0) 9) l ≡ true
 
-first-below : (l : List (ℕ × Bool)) → Below l → firstOf l ≤ 9
+pub first-below : (l : List (ℕ × Bool)) → Below l → firstOf l ≤ 9
 unfolding firstOf allTails
 first-below [] h = omega arith
 first-below ((m, true) ∷ l) h = leb-true m 9 (and-left (leb m 9) _ h)

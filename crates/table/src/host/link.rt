@@ -52,7 +52,7 @@ fn links_allowed(
     true
 }
 
-fn may_link(s: Settings, table: &[u8], linked: bool, at: Found, named: &[u8]) -> bool
+pub(crate) fn may_link(s: Settings, table: &[u8], linked: bool, at: Found, named: &[u8]) -> bool
     requires { ⌜ length (now table) ≡ 1536 ⌝ }
     ensures { λ r. ⌜ (linked ≡ linkedIn (recordsOf (now (table .entry))) → r ≡ mayLink s (recordsOf (now (table .entry))) (addressesOf (recordsOf (now (table .entry)))) at (now (named .entry))) ⌝ }
 {

@@ -9,7 +9,7 @@ ghost use lib.ListN.{length};
 ghost use Rattle.table.specs.Lent.{roomOf, malformedOf, lentAnswer, lentTable, lentIn};
 
 // The least output buffer of an event.
-fn room(e: Event) -> usize
+pub(crate) fn room(e: Event) -> usize
     ensures { λ r. ⌜ r ≡ roomOf e ⌝ }
 {
     match e {

@@ -52,7 +52,13 @@ fn links_allowed(
     true
 }
 
-fn may_link(s: Settings, t: [Record; 32], addresses: &[u64], at: Found, named: &[u8]) -> bool
+pub(crate) fn may_link(
+    s: Settings,
+    t: [Record; 32],
+    addresses: &[u64],
+    at: Found,
+    named: &[u8],
+) -> bool
     ensures { λ r. ⌜ r ≡ mayLink s t (now (addresses .entry)) at (now (named .entry)) ⌝ }
 {
     if may_name(s, named, find_link(t, device_in(named))) {} else {

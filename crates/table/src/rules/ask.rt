@@ -59,7 +59,7 @@ fn aid(at: Found) -> u16
 }
 
 // The first refusal that applies, of those after 1 and 2; 0 where none does.
-fn refusal(
+pub(crate) fn refusal(
     s: Settings,
     free: Found,
     at: Found,

@@ -115,7 +115,7 @@ pub(crate) fn may_name(s: Settings, named: &[u8], link: Found) -> bool
 }
 
 // The first refusal that applies, of those after 1 and 2; 0 where none does.
-fn refusal(s: Settings, free: Found, at: Found, p: Record, may: bool, count: u8) -> u8
+pub(crate) fn refusal(s: Settings, free: Found, at: Found, p: Record, may: bool, count: u8) -> u8
     ensures { λ r. ⌜ r ≡ firstOf (linkRefusals s p may at free count) ⌝ }
 {
     if may {} else {

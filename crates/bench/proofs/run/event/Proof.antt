@@ -1,6 +1,6 @@
--- `bench::run::event` meets its contract: played and shown by either way, and the run behind it.
+-- `bench::run::event` meets its contract: played and printed in one of three ways, and the run behind it.
 -- Assumes nothing.
-use Rattle.bench.proofs.Events.{event-run, plain-output, traced-output}
+use Rattle.bench.proofs.Events.{event-run, plain-output, traced-output, why-output}
 use Rattle.bench.specs.Output.{Output, upTo}
 use Rattle.bench.specs.Run.{eventOutput}
 use Rattle.table.specs.Rows.{recordsOf}
@@ -16,8 +16,23 @@ counted-requires c κs = search needs
 behind-requires : tie.Need-behind-requires
 behind-requires c κs = search needs
 
+enum-told : tie.Need-enum-told
+enum-told c = search needs
+
+plain-requires : tie.Need-plain-requires
+plain-requires c κs = search needs
+
+enum-told-2 : tie.Need-enum-told-2
+enum-told-2 c = search needs
+
 traced-event-requires : tie.Need-traced-event-requires
 traced-event-requires c κs = search needs
+
+enum-told-3 : tie.Need-enum-told-3
+enum-told-3 c = search needs
+
+explained-requires : tie.Need-explained-requires
+explained-requires c κs = search needs
 
 same-length : tie.Need-same-length
 same-length c = search needs
@@ -27,20 +42,17 @@ same-length-2 c = search needs
 
 returns : tie.Need-returns
 returns c =
-    let a = c .before .before .before .before .before .before .before .before .before .before .before .before .before .args in
+    let a = c .before .before .before .before .before .before .before .before .before .before .before .before .before .before .args in
     let ts = now (a .table) in
-    let n = c .before .before .before .before .before .before .before .before .before .counted .ensures in (
-      c .before .before .before .before .traced-event .ensures .0,
+    let n = c .before .before .before .before .before .before .before .before .before .before .counted .ensures in (
+      c .before .before .before .before .plain .ensures .0,
       λ i.
-          let h : upTo (c .before .before .before .before .traced-event .last .1 .0) (c .before .before .before .before .traced-event .result) ≡ eventOutput (a .r) (recordsOf ts) (a .e) (now (a .frame)) (now (a .output)) =
-          traced-output (a .r) ts (a .e) (now (a .frame)) (now (a .output)) _ n _ (c .before .before .before .before .before .before .before .if1 .taken) (c .before .before .before .before .traced-event .ensures .1) in
-          (event-run (a .r) (recordsOf ts) (a .e) (now (a .frame)) (now (a .output)) (a .size) _ _ _ _ n (c .before .before .before .before .before .before .before .before .behind .ensures) h, ap (λ (o : Output). o .octets) h),
-      λ k. c .before .before .before .before .before .before .before .before .before .before .before .before .slice-known .given k .fits,
-      λ k. c .before .before .before .before .before .before .before .before .before .before .shared-slice-known .given k .fits,
+          let h : upTo (c .before .before .before .before .plain .last .1 .0) (c .before .before .before .before .plain .result) ≡ eventOutput (a .r) (recordsOf ts) (a .e) (now (a .frame)) (now (a .output)) =
+          plain-output (a .r) ts (a .e) (now (a .frame)) (now (a .output)) _ n _ i (c .before .before .before .before .before .before .before .enum-told .given .1) (c .before .before .before .before .plain .ensures .1) in
+          (event-run (a .r) (recordsOf ts) (a .e) (now (a .frame)) (now (a .output)) (a .size) _ _ _ _ n (c .before .before .before .before .before .before .before .before .before .behind .ensures) h, ap (λ (o : Output). o .octets) h),
+      λ k. c .before .before .before .before .before .before .before .before .before .before .before .before .before .slice-known .given k .fits,
+      λ k. c .before .before .before .before .before .before .before .before .before .before .before .shared-slice-known .given k .fits,
     )
-
-plain-requires : tie.Need-plain-requires
-plain-requires c κs = search needs
 
 same-length-3 : tie.Need-same-length-3
 same-length-3 c = search needs
@@ -50,16 +62,36 @@ same-length-4 c = search needs
 
 returns-2 : tie.Need-returns-2
 returns-2 c =
-    let a = c .before .before .before .before .before .before .before .before .before .before .before .before .before .args in
+    let a = c .before .before .before .before .before .before .before .before .before .before .before .before .before .before .args in
     let ts = now (a .table) in
-    let n = c .before .before .before .before .before .before .before .before .before .counted .ensures in (
-      c .before .before .before .before .plain .ensures .0,
+    let n = c .before .before .before .before .before .before .before .before .before .before .counted .ensures in (
+      c .before .before .before .before .traced-event .ensures .0,
       λ i.
-          let h : upTo (c .before .before .before .before .plain .last .1 .0) (c .before .before .before .before .plain .result) ≡ eventOutput (a .r) (recordsOf ts) (a .e) (now (a .frame)) (now (a .output)) =
-          plain-output (a .r) ts (a .e) (now (a .frame)) (now (a .output)) _ n _ i (c .before .before .before .before .before .before .before .if1 .left) (c .before .before .before .before .plain .ensures .1) in
-          (event-run (a .r) (recordsOf ts) (a .e) (now (a .frame)) (now (a .output)) (a .size) _ _ _ _ n (c .before .before .before .before .before .before .before .before .behind .ensures) h, ap (λ (o : Output). o .octets) h),
-      λ k. c .before .before .before .before .before .before .before .before .before .before .before .before .slice-known .given k .fits,
-      λ k. c .before .before .before .before .before .before .before .before .before .before .shared-slice-known .given k .fits,
+          let h : upTo (c .before .before .before .before .traced-event .last .1 .0) (c .before .before .before .before .traced-event .result) ≡ eventOutput (a .r) (recordsOf ts) (a .e) (now (a .frame)) (now (a .output)) =
+          traced-output (a .r) ts (a .e) (now (a .frame)) (now (a .output)) _ n _ (c .before .before .before .before .before .before .before .enum-told2 .given .1) (c .before .before .before .before .traced-event .ensures .1) in
+          (event-run (a .r) (recordsOf ts) (a .e) (now (a .frame)) (now (a .output)) (a .size) _ _ _ _ n (c .before .before .before .before .before .before .before .before .before .behind .ensures) h, ap (λ (o : Output). o .octets) h),
+      λ k. c .before .before .before .before .before .before .before .before .before .before .before .before .before .slice-known .given k .fits,
+      λ k. c .before .before .before .before .before .before .before .before .before .before .before .shared-slice-known .given k .fits,
+    )
+
+same-length-5 : tie.Need-same-length-5
+same-length-5 c = search needs
+
+same-length-6 : tie.Need-same-length-6
+same-length-6 c = search needs
+
+returns-3 : tie.Need-returns-3
+returns-3 c =
+    let a = c .before .before .before .before .before .before .before .before .before .before .before .before .before .before .args in
+    let ts = now (a .table) in
+    let n = c .before .before .before .before .before .before .before .before .before .before .counted .ensures in (
+      c .before .before .before .before .explained .ensures .0,
+      λ i.
+          let h : upTo (c .before .before .before .before .explained .last .1 .0) (c .before .before .before .before .explained .result) ≡ eventOutput (a .r) (recordsOf ts) (a .e) (now (a .frame)) (now (a .output)) =
+          why-output (a .r) ts (a .e) (now (a .frame)) (now (a .output)) _ n _ (c .before .before .before .before .before .before .before .enum-told3 .given .1) (c .before .before .before .before .explained .ensures .1) in
+          (event-run (a .r) (recordsOf ts) (a .e) (now (a .frame)) (now (a .output)) (a .size) _ _ _ _ n (c .before .before .before .before .before .before .before .before .before .behind .ensures) h, ap (λ (o : Output). o .octets) h),
+      λ k. c .before .before .before .before .before .before .before .before .before .before .before .before .before .slice-known .given k .fits,
+      λ k. c .before .before .before .before .before .before .before .before .before .before .before .shared-slice-known .given k .fits,
     )
 
 pub event-spec : {M : Type 1} → statement M
@@ -68,11 +100,18 @@ event-spec =
     (tie.spec
     counted-requires
     behind-requires
+    enum-told
+    plain-requires
+    enum-told-2
     traced-event-requires
+    enum-told-3
+    explained-requires
     same-length
     same-length-2
     returns
-    plain-requires
     same-length-3
     same-length-4
-    returns-2)
+    returns-2
+    same-length-5
+    same-length-6
+    returns-3)

@@ -1,0 +1,71 @@
+// An event, played on the table's octets and printed: one function for each way to print it. Each gives where the next line goes.
+use crate::lent::lent_play;
+use crate::line::write_line;
+use crate::rows::play;
+use crate::rows::records_in;
+use crate::run::Run;
+use crate::show::traced;
+use crate::why::write_why;
+use table::records::why::why;
+use table::rules::event::Event;
+ghost use mathlib.Core.Path.{_≡_};
+ghost use Rattle.table.specs.Host.{hostAnswer, hostTable};
+ghost use Rattle.table.specs.Rows.{recordsOf};
+ghost use Rattle.table.specs.Why.{whyOf};
+ghost use Rattle.bench.specs.Line.{lineOf};
+ghost use Rattle.bench.specs.Output.{putAll, putOf, short, upTo};
+ghost use Rattle.bench.specs.Play.{zeros};
+ghost use Rattle.bench.specs.Run.{playedOf, scratchOf};
+ghost use Rattle.bench.specs.Trace.{traceLines};
+ghost use Rattle.bench.specs.Why.{whyLine};
+
+// The line of an event.
+pub(crate) fn plain(
+    table: &mut [u8],
+    output: &mut [u8],
+    r: Run,
+    number: u64,
+    e: Event,
+    frame: &[u8],
+) -> usize
+    ensures { λ n. ⌜ (now (table .exit) ≡ hostTable (now (table .entry)) (r .settings) e (now (frame .entry)) zeros) × (upTo (now (output .exit)) n ≡ putOf (short (lineOf number (hostAnswer (now (table .entry)) (r .settings) e (now (frame .entry)) zeros))) (upTo (now (output .entry)) (r .out))) ⌝ }
+{
+    let answer = play(table, r.settings, e, frame);
+    write_line(output, r.out, number, answer)
+}
+
+// The same, with what a trace shows behind it. The lines come from the records lent, the table from the octets: two ways to hold it.
+pub(crate) fn traced_event(
+    table: &mut [u8],
+    output: &mut [u8],
+    r: Run,
+    number: u64,
+    e: Event,
+    frame: &[u8],
+) -> usize
+    ensures { λ n. ⌜ (now (table .exit) ≡ hostTable (now (table .entry)) (r .settings) e (now (frame .entry)) zeros) × (upTo (now (output .exit)) n ≡ putAll (traceLines (playedOf r (recordsOf (now (table .entry))) e (now (frame .entry)) .answer) (scratchOf r (recordsOf (now (table .entry))) e (now (frame .entry))) (playedOf r (recordsOf (now (table .entry))) e (now (frame .entry)) .table)) (putOf (short (lineOf number (playedOf r (recordsOf (now (table .entry))) e (now (frame .entry)) .answer))) (upTo (now (output .entry)) (r .out)))) ⌝ }
+{
+    let p = lent_play(r.settings, records_in(&*table), e, frame);
+    play(table, r.settings, e, frame);
+    let answer = p.answer;
+    let scratch = p.scratch;
+    let after = p.table;
+    let at = write_line(&mut *output, r.out, number, answer);
+    traced(output, at, answer, scratch, after)
+}
+
+// Why it came to what it did, in place of its line (02, K4).
+pub(crate) fn explained(
+    table: &mut [u8],
+    output: &mut [u8],
+    r: Run,
+    number: u64,
+    e: Event,
+    frame: &[u8],
+) -> usize
+    ensures { λ n. ⌜ (now (table .exit) ≡ hostTable (now (table .entry)) (r .settings) e (now (frame .entry)) zeros) × (upTo (now (output .exit)) n ≡ putOf (short (whyLine number (whyOf (r .settings) (recordsOf (now (table .entry))) e (now (frame .entry)) 256))) (upTo (now (output .entry)) (r .out))) ⌝ }
+{
+    let w = why(r.settings, records_in(&*table), e, frame, 256);
+    play(table, r.settings, e, frame);
+    write_why(output, r.out, number, w)
+}
