@@ -2,10 +2,14 @@
  *
  * cc -std=c11 -O2 -Wall -Wextra -Wpedantic -Wconversion -Wshadow -Werror -o independent *.c
  *
- * Without arguments: one line for each event. With -v: trace lines after each event's line
- * (README.md). With why: one line for each event, its number, the rule that decided and the value beside
- * it. Exit status 0, also after `stop`; 1 on a read or write error; 2 on other arguments.
+ *   independent                           one line for each event
+ *   independent -v                        trace lines after each event's line (README.md)
+ *   independent why                       one line for each event: number, the rule that decided, value
+ *   independent import SETTINGS CAPTURE   the bench records of a capture (import.c)
+ *
+ * Exit status 0, also after `stop`; 1 on a read or write error; 2 on other words.
  */
+#include "import.h"
 #include "why.h"
 
 #include <inttypes.h>
@@ -64,7 +68,9 @@ static int run_words(int words, char **word)
         return each_event(tell_trace);
     if (words == 1 && strcmp(word[0], "why") == 0)
         return each_event(tell_why);
-    fputs("independent: no words, -v or why\n", stderr);
+    if (words == 3 && strcmp(word[0], "import") == 0)
+        return import_capture(word[1], word[2]);
+    fputs("independent: unknown words; the head of main.c lists those it knows\n", stderr);
     return 2;
 }
 

@@ -5,15 +5,16 @@ import shlex
 import sys
 import tempfile
 
-from . import manual, source, stream
+from . import from_capture, manual, source, stream
 from .answers import BenchFault
 from .show import Teller
 from .source import ScenarioFault, UsageFault
+from .values import Fault, visible
 
 USAGE = "scenario [--table | --lines | --octets | --check | --chart OUT.svg] FILE, or scenario --help [WORD]"
-OPTIONS = ("--table", "--lines", "--octets", "--check", "--chart")
+OPTIONS = ("--table", "--lines", "--octets", "--check", "--chart", "--from")
 # Options with a value behind them.
-VALUED = ("--chart", "--bench")
+VALUED = ("--chart", "--bench", "--from", "--settings")
 
 
 def arguments(words):
@@ -35,6 +36,10 @@ def arguments(words):
         if clash:
             raise UsageFault(f"{clash[0]} and {word} do not go together: {USAGE}")
         options[word] = value
+    if "--from" in options and not files and "--settings" in options:
+        return options, [options["--from"]]
+    if "--from" in options or "--settings" in options:
+        raise UsageFault("a capture is turned into a scenario by: scenario --from CAPTURE --settings 'ap own=ADDRESS'")
     if len(files) != 1 and not (files and "--check" in options):
         raise UsageFault(f"{len(files) or 'no'} files given, one is wanted: {USAGE}")
     return options, files
@@ -101,8 +106,29 @@ def check(lines, name, command):
     return len(teller.failed)
 
 
+def turn(file, settings):
+    """The text of a scenario that a capture makes; 1 where the capture ends in the middle of a packet."""
+    capture = None
+    try:
+        with open(file, "rb") as octets_:
+            for line, capture in from_capture.texts(octets_, file, settings):
+                put((visible(line) + "\n").encode(), False)
+    except Fault as fault:
+        raise UsageFault(f"--settings: {fault}") from None
+    except OSError as fault:
+        if isinstance(fault, BrokenPipeError):
+            raise
+        raise UsageFault(f"{file}: {fault.strerror}") from None
+    put(b"")
+    said = f"{capture.packets} packets, {capture.left_out} left out" + (f"; {capture.fault}" if capture.fault else "")
+    print(f"scenario: {file}: {said}", file=sys.stderr)
+    return 1 if capture.fault else 0
+
+
 def produce(options, file, command):
     """Plays one file as the options say; the number of expectations that were not met."""
+    if "--from" in options:
+        return turn(file, options["--settings"])
     text, name = source.opened(file)
     with text:
         lines = source.lines(text, name)

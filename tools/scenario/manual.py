@@ -14,6 +14,9 @@ scenario: plays a scenario on the bench program and tells what the peer table an
   scenario --chart OUT.svg FILE  the message chart of it, a picture
   scenario --lines FILE          the bench program's plain lines
   scenario --octets FILE         the bench input itself, octets on standard output; nothing is run
+  scenario --from CAPTURE --settings 'ap own=ADDRESS'
+                                 a capture (pcap, link type 105) as the text of a scenario: a frame a line, in
+                                 words, with the clock steps between; './capture' makes such of others
   scenario --help [WORD]         this text; what a word means and takes, with an example
 
 FILE '-' is standard input. A fault is told as FILE:LINE: what is wrong and what would be right, all faults of a

@@ -10,3 +10,7 @@ pub mod Plays
 pub mod Run
 pub mod Turn
 pub mod Rounds
+pub mod Capture
+pub mod Import
+pub mod Importer
+pub mod Kept

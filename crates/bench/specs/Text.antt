@@ -36,3 +36,8 @@ hexOf (v ∷ vs) = hexOctet v ++ hexOf vs
 unfoldable pub isTrace : List ℕ → Bool
 isTrace w =
     eqb (length w) 5 && (eqb (getD w 0 0) 116 && (eqb (getD w 1 0) 114 && (eqb (getD w 2 0) 97 && (eqb (getD w 3 0) 99 && eqb (getD w 4 0) 101))))
+
+-- The word "import".
+unfoldable pub isImport : List ℕ → Bool
+isImport w =
+    eqb (length w) 6 && (eqb (getD w 0 0) 105 && (eqb (getD w 1 0) 109 && (eqb (getD w 2 0) 112 && (eqb (getD w 3 0) 111 && (eqb (getD w 4 0) 114 && eqb (getD w 5 0) 116)))))

@@ -1,7 +1,12 @@
 // The bench program: records on standard input, one line an event on standard output.
+mod capture;
+mod import;
+mod importer;
 mod input;
 mod lent;
 mod line;
+mod passed;
+mod put;
 mod rows;
 mod run;
 mod show;
@@ -10,11 +15,12 @@ mod trace;
 mod ways;
 mod why;
 
+use import::import_files;
 use run::Prints;
 use run::Run;
 use run::round;
 ghost use mathlib.Core.Path.{_≡_};
-ghost use Rattle.bench.specs.Text.{isTrace};
+ghost use Rattle.bench.specs.Text.{isImport, isTrace};
 ghost use Rattle.bench.specs.Why.{isWhy};
 
 // A proved loop has to end, and nothing says that an input does: so the turns are counted down from a number that no run uses up.
@@ -39,6 +45,7 @@ enum Mode {
     Plain,
     Trace,
     Why,
+    Import,
     Unknown,
 }
 
@@ -80,16 +87,44 @@ fn is_why(word: &[u8]) -> bool
     word[2] == b'y'
 }
 
+// Whether a word is `import`.
+fn is_import(word: &[u8]) -> bool
+    ensures { λ r. ⌜ r ≡ isImport (now (word .entry)) ⌝ }
+{
+    if word.len() != 6 {
+        return false;
+    }
+    if word[0] != b'i' {
+        return false;
+    }
+    if word[1] != b'm' {
+        return false;
+    }
+    if word[2] != b'p' {
+        return false;
+    }
+    if word[3] != b'o' {
+        return false;
+    }
+    if word[4] != b'r' {
+        return false;
+    }
+    word[5] == b't'
+}
+
 fn asked_mode() -> Mode {
     let count = os::arg_count();
     if count <= 1 {
         return Mode::Plain;
     }
+    let mut word = [0u8; 64];
+    let n = os::arg(1, &mut word);
+    if is_import(&word[..n]) {
+        return Mode::Import;
+    }
     if 2 < count {
         return Mode::Unknown;
     }
-    let mut word = [0u8; 64];
-    let n = os::arg(1, &mut word);
     if is_trace(&word[..n]) {
         return Mode::Trace;
     }
@@ -106,10 +141,11 @@ fn main() {
         Mode::Plain => run_all(Prints::Lines),
         Mode::Trace => run_all(Prints::Trace),
         Mode::Why => run_all(Prints::Why),
+        Mode::Import => import_files(),
         Mode::Unknown => {
             io::write_all(
                 libc::STDERR_FILENO,
-                b"bench: unknown argument: 'trace', 'why', or none, with the records on standard input\n",
+                b"bench: unknown argument: 'trace', 'why', 'import SETTINGS CAPTURE', or none, with the records on standard input\n",
             );
         }
     }
