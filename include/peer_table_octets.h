@@ -47,7 +47,7 @@ enum {
     PEER_OUT_LEAST = 37,       /* a frame was received, our side asks or names links: the longest frame written */
     PEER_PASS_OUT_LEAST = 256, /* time passed: 32 timeouts */
     PEER_TIMEOUT_OCTETS = 8,   /* one timeout: place, kind, address of six octets */
-    PEER_STACK_OCTETS = 2048,  /* below the caller's frame, on every target; tested, not proved: README.md has the most seen */
+    PEER_STACK_OCTETS = 2304,  /* below the caller's frame, on every target; tested, not proved: README.md has the most seen */
     PEER_HOLD_USUAL = 1954,    /* 2 s: the hold after a rejection without a comeback time, and after a disassociation received */
     PEER_QUERY_RETRY_USUAL = 201,   /* a query's times in settings that do not say them */
     PEER_QUERY_MAXIMUM_USUAL = 1000

@@ -169,6 +169,21 @@ def seen(folder, name, file, written):
     return [] if fields(file) == fields(after) else [f"{name}: tshark reads other frames"]
 
 
+def by_tshark(folder):
+    """A capture that tshark writes, in either form, reads back to the same packets."""
+    if not shutil.which("tshark"):
+        return []
+    ours, wanted, faults = folder / "ours.pcap", plain(times(FRAMES)), []
+    ours.write_bytes(wanted)
+    for form in ("pcap", "pcapng"):
+        theirs = folder / f"theirs.{form}"
+        subprocess.run(["tshark", "-r", str(ours), "-F", form, "-w", str(theirs)], capture_output=True, check=False)
+        status, written, errors = run(["capture", str(theirs)])
+        if status or written != wanted:
+            faults.append(f"written by tshark as {form}: {status} {errors}")
+    return faults
+
+
 def damaged(folder):
     """Files that are no capture, or end too early: a line, and what was read before stands."""
     whole, faults = classic(times([radiotap(one, 0) for one in FRAMES[:2]]), 127), []
@@ -221,7 +236,7 @@ def main():
     with tempfile.TemporaryDirectory() as name:
         folder = pathlib.Path(name)
         faults, count = converted(folder)
-        faults += damaged(folder) + told(folder)
+        faults += by_tshark(folder) + damaged(folder) + told(folder)
     with_it = "held against tshark's reading" if shutil.which("tshark") else "tshark is not at hand"
     ending.tell(f"{count} captures, {with_it}", faults)
 

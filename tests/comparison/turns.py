@@ -5,6 +5,7 @@ the program's own lines and trace.
 """
 
 import collections
+import subprocess
 
 from tools import bench_input as bench
 from tools.scenario import answers
@@ -15,6 +16,7 @@ Turn = collections.namedtuple("Turn", "event answer before")
 Settings = collections.namedtuple("Settings", "role own rsna authentication_timeout association_timeout "
                                   "edition protection query_retry query_maximum network")
 STOP = "stop\n"
+SECONDS = 120
 
 
 def records(octets):
@@ -47,15 +49,30 @@ def read(octets, printed):
     count = sum(not line.startswith(" ") for line in printed.splitlines())
     if not every or not count:
         return None, []
-    found = answers.read(printed, count)
+    found = answers.Trace().take(printed, last=True)
+    if len(found) != count:
+        raise answers.BenchFault(f"{len(found)} answers are read from {count} lines")
     tables = [{}] + [answer.table for answer in found]
     turns = [Turn(*one) for one in zip(every[1:], found, tables)]
     return settings_of(every[0].body), turns
 
 
+def printed_by(command, octets):
+    """What a program prints on these octets."""
+    try:
+        done = subprocess.run(command, input=octets, capture_output=True, timeout=SECONDS)
+    except OSError as fault:
+        raise answers.BenchFault(f"{command[0]} can't be run: {fault.strerror}") from None
+    except subprocess.TimeoutExpired:
+        raise answers.BenchFault(f"{command[0]} had not ended after {SECONDS} s") from None
+    if done.returncode:
+        raise answers.BenchFault(f"{command[0]} ended with status {done.returncode}")
+    return done.stdout.decode("ascii", "replace")
+
+
 def play(command, octets):
     """The same of what a command, with its word for the trace, prints of the octets."""
-    return read(octets, answers.run(command, octets))
+    return read(octets, printed_by(command, octets))
 
 
 def row_of(table, address):
