@@ -6,11 +6,15 @@
  *   independent -v                        trace lines after each event's line (README.md)
  *   independent why                       one line for each event: number, the rule that decided, value
  *   independent import SETTINGS CAPTURE   the bench records of a capture (import.c)
+ *   independent month FILE..              counts of each bench file and of all together (month.c)
+ *   independent total                     one block for those on standard input (total.c)
+ *   independent check INPUT LOG           whether a log is what a bench input gets (check.c)
  *
  * Exit status 0, also after `stop`; 1 on a read or write error; 2 on other words.
  */
+#include "check.h"
 #include "import.h"
-#include "why.h"
+#include "month.h"
 
 #include <inttypes.h>
 #include <signal.h>
@@ -70,6 +74,12 @@ static int run_words(int words, char **word)
         return each_event(tell_why);
     if (words == 3 && strcmp(word[0], "import") == 0)
         return import_capture(word[1], word[2]);
+    if (words >= 2 && strcmp(word[0], "month") == 0)
+        return month_files(words - 1, word + 1);
+    if (words == 1 && strcmp(word[0], "total") == 0)
+        return month_total();
+    if (words == 3 && strcmp(word[0], "check") == 0)
+        return check_log(word[1], word[2]);
     fputs("independent: unknown words; the head of main.c lists those it knows\n", stderr);
     return 2;
 }
