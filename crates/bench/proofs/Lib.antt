@@ -27,5 +27,6 @@ pub mod TableTrip
 pub mod TraceLines
 pub mod Whole
 pub mod WholeExample
+pub mod Words
 pub mod Yard
 pub mod YardExample

@@ -2,9 +2,8 @@
 -- Assumes nothing.
 use Prim.Native.Nat.{ℕ, zero, suc, _+_, _/_, _%_}
 use mathlib.Core.List.{List, [], _∷_, _++_}
-use mathlib.Core.Bool.{Bool, _&&_}
+use mathlib.Core.Bool.{Bool, true, false, _&&_}
 use lib.Dec.{ltb, eqb}
-use lib.ListN.{length, getD}
 use Rattle.octets.specs.Pick.{pick}
 
 -- A number in decimal, of at most k digits, the highest first and none of them a leading 0.
@@ -32,12 +31,9 @@ unfoldable pub hexOf : List ℕ → List ℕ
 hexOf [] = []
 hexOf (v ∷ vs) = hexOctet v ++ hexOf vs
 
--- The word "trace".
-unfoldable pub isTrace : List ℕ → Bool
-isTrace w =
-    eqb (length w) 5 && (eqb (getD w 0 0) 116 && (eqb (getD w 1 0) 114 && (eqb (getD w 2 0) 97 && (eqb (getD w 3 0) 99 && eqb (getD w 4 0) 101))))
-
--- The word "import".
-unfoldable pub isImport : List ℕ → Bool
-isImport w =
-    eqb (length w) 6 && (eqb (getD w 0 0) 105 && (eqb (getD w 1 0) 109 && (eqb (getD w 2 0) 112 && (eqb (getD w 3 0) 111 && (eqb (getD w 4 0) 114 && eqb (getD w 5 0) 116)))))
+-- Whether two words are one, letter by letter.
+unfoldable pub sameOf : List ℕ → List ℕ → Bool
+sameOf [] [] = true
+sameOf [] (y ∷ ys) = false
+sameOf (x ∷ xs) [] = false
+sameOf (x ∷ xs) (y ∷ ys) = eqb x y && sameOf xs ys

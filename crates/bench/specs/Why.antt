@@ -1,10 +1,7 @@
 -- 02, K4: why an event came to what it did, as a line: its number, the reason's word, the value beside it; one blank between, one LF at the end.
 -- Assumes nothing.
 use Prim.Native.Nat.{ℕ}
-use mathlib.Core.Bool.{Bool, _&&_}
 use mathlib.Core.List.{List, [], _∷_, _++_}
-use lib.Dec.{eqb}
-use lib.ListN.{length, getD}
 use Rattle.table.specs.declared.rules.why.Reason.{Reason}
 use Rattle.table.specs.declared.rules.why.Reason.the-variants.{None, Refusal, NoClass, ClassFilter, GroupRule, NothingToDo}
 use Rattle.table.specs.declared.rules.why.Why.{Why}
@@ -33,7 +30,3 @@ whyText number reason value = fieldOf 20 number ++ wordOf reason ++ tens 20 valu
 
 abbrev pub whyLine : ℕ → Why → List ℕ
 whyLine number w = whyText number (w .reason) (w .value)
-
--- The word "why" on the command line.
-unfoldable pub isWhy : List ℕ → Bool
-isWhy w = eqb (length w) 3 && (eqb (getD w 0 0) 119 && (eqb (getD w 1 0) 104 && eqb (getD w 2 0) 121))

@@ -8,13 +8,13 @@ use crate::input::Taken;
 use crate::input::record_length;
 use crate::input::shift;
 use crate::input::take;
+use crate::run::behind;
 use crate::text::has_room;
 use libc::STDERR_FILENO;
 use libc::STDOUT_FILENO;
 ghost use mathlib.Core.Path.{_≡_};
 ghost use Rattle.bench.specs.Import.{oneSettings};
 ghost use Rattle.bench.specs.Importer.{isOver};
-ghost use Rattle.bench.specs.Run.{behindOf};
 
 // Where an import stands. Of the input buffer the octets from `at` to `have` are still to be taken; of the output buffer the first `out` are
 // still to be written.
@@ -52,13 +52,6 @@ fn is_over(s: State) -> bool
         Stage::Between => false,
         Stage::Passing(_) => false,
     }
-}
-
-// Where one stands n octets behind `at`, of `have`.
-fn forward(at: usize, n: usize, have: usize) -> usize
-    ensures { λ q. ⌜ q ≡ behindOf at n have ⌝ }
-{
-    if has_room(have, at, n) { at + n } else { have }
 }
 
 // A line on standard error that names a file.
@@ -108,7 +101,7 @@ fn refill(fd: i32, path: &[u8], input: &mut [u8], output: &[u8], j: Job) -> Job 
     }
     let n = io::count(got, &input[left..]);
     next.at = 0;
-    next.have = forward(left, n, input.len());
+    next.have = behind(left, n, input.len());
     next.over = n == 0;
     next
 }
@@ -157,7 +150,7 @@ fn advance(fd: i32, path: &[u8], input: &mut [u8], output: &mut [u8], j: Job) ->
     let state = t.state;
     next.done = false;
     next.state = state;
-    next.at = forward(at, t.taken, have);
+    next.at = behind(at, t.taken, have);
     next.out = t.out;
     if t.wants {
         return wanted(fd, path, input, output, next);

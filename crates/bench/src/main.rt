@@ -16,12 +16,12 @@ mod ways;
 mod why;
 
 use import::import_files;
+use libc::STDIN_FILENO;
 use run::Prints;
 use run::Run;
 use run::round;
 ghost use mathlib.Core.Path.{_≡_};
-ghost use Rattle.bench.specs.Text.{isImport, isTrace};
-ghost use Rattle.bench.specs.Why.{isWhy};
+ghost use Rattle.bench.specs.Text.{sameOf};
 
 // A proved loop has to end, and nothing says that an input does: so the turns are counted down from a number that no run uses up.
 fn run_all(prints: Prints) {
@@ -35,7 +35,7 @@ fn run_all(prints: Prints) {
         if r.done {
             return;
         }
-        r = round(&mut table, &mut input, &mut output, r);
+        r = round(STDIN_FILENO, &mut table, &mut input, &mut output, r);
         turns -= 1;
     }
 }
@@ -49,67 +49,21 @@ enum Mode {
     Unknown,
 }
 
-// Whether a word is `trace`.
-fn is_trace(word: &[u8]) -> bool
-    ensures { λ r. ⌜ r ≡ isTrace (now (word .entry)) ⌝ }
+// Whether a word is a known one, letter by letter.
+fn is_word(word: &[u8], known: &[u8]) -> bool
+    ensures { λ r. ⌜ r ≡ sameOf (now (word .entry)) (now (known .entry)) ⌝ }
 {
-    if word.len() != 5 {
+    if word.len() != known.len() {
         return false;
     }
-    if word[0] != b't' {
-        return false;
+    let mut i = 0;
+    while i < word.len() {
+        if word[i] != known[i] {
+            return false;
+        }
+        i += 1;
     }
-    if word[1] != b'r' {
-        return false;
-    }
-    if word[2] != b'a' {
-        return false;
-    }
-    if word[3] != b'c' {
-        return false;
-    }
-    word[4] == b'e'
-}
-
-// Whether a word is `why`.
-fn is_why(word: &[u8]) -> bool
-    ensures { λ r. ⌜ r ≡ isWhy (now (word .entry)) ⌝ }
-{
-    if word.len() != 3 {
-        return false;
-    }
-    if word[0] != b'w' {
-        return false;
-    }
-    if word[1] != b'h' {
-        return false;
-    }
-    word[2] == b'y'
-}
-
-// Whether a word is `import`.
-fn is_import(word: &[u8]) -> bool
-    ensures { λ r. ⌜ r ≡ isImport (now (word .entry)) ⌝ }
-{
-    if word.len() != 6 {
-        return false;
-    }
-    if word[0] != b'i' {
-        return false;
-    }
-    if word[1] != b'm' {
-        return false;
-    }
-    if word[2] != b'p' {
-        return false;
-    }
-    if word[3] != b'o' {
-        return false;
-    }
-    if word[4] != b'r' {
-        return false;
-    }
-    word[5] == b't'
+    true
 }
 
 fn asked_mode() -> Mode {
@@ -119,16 +73,16 @@ fn asked_mode() -> Mode {
     }
     let mut word = [0u8; 64];
     let n = os::arg(1, &mut word);
-    if is_import(&word[..n]) {
+    if is_word(&word[..n], b"import") {
         return Mode::Import;
     }
     if 2 < count {
         return Mode::Unknown;
     }
-    if is_trace(&word[..n]) {
+    if is_word(&word[..n], b"trace") {
         return Mode::Trace;
     }
-    if is_why(&word[..n]) {
+    if is_word(&word[..n], b"why") {
         Mode::Why
     } else {
         Mode::Unknown

@@ -1,4 +1,4 @@
-// The run over standard input: the octets read, what was taken of them, and the lines not yet written.
+// The run over an input: the octets read, what was taken of them, and the lines not yet written.
 use crate::input::Taken;
 use crate::input::body;
 use crate::input::record_length;
@@ -9,7 +9,6 @@ use crate::text::has_room;
 use crate::ways::explained;
 use crate::ways::plain;
 use crate::ways::traced_event;
-use libc::STDIN_FILENO;
 use libc::STDOUT_FILENO;
 use peer::settings::Settings;
 use table::rules::event::Event;
@@ -80,7 +79,7 @@ impl Run {
 }
 
 // Where one stands n octets behind `at`, of `have`.
-fn behind(at: usize, n: usize, have: usize) -> usize
+pub(crate) fn behind(at: usize, n: usize, have: usize) -> usize
     ensures { λ q. ⌜ q ≡ behindOf at n have ⌝ }
 {
     if has_room(have, at, n) { at + n } else { have }
@@ -123,13 +122,13 @@ fn stop(output: &mut [u8], r: Run) -> Run
     finish(next)
 }
 
-// Reads on behind what is left.
-fn refill(input: &mut [u8], r: Run) -> Run
+// Reads on behind what is left, from a descriptor.
+fn refill(fd: i32, input: &mut [u8], r: Run) -> Run
     ensures { λ q. ⌜ Refilled (now (input .entry)) r (now (input .exit)) q ⌝ }
 {
     let mut next = r;
     let left = shift(input, r.at, r.have);
-    let got = libc::read(STDIN_FILENO, &mut input[left..]);
+    let got = libc::read(fd, &mut input[left..]);
     if got < 0 {
         return finish(next);
     }
@@ -141,7 +140,7 @@ fn refill(input: &mut [u8], r: Run) -> Run
 }
 
 // A record that is not there whole: more is read, unless the input came to its end.
-fn cut(input: &mut [u8], output: &mut [u8], r: Run) -> Run
+fn cut(fd: i32, input: &mut [u8], output: &mut [u8], r: Run) -> Run
     ensures { λ q. ⌜ ((ts : List ℕ) → Turned Cut ts (now (input .entry)) (now (output .entry)) r ts (now (input .exit)) (now (output .exit)) q) ⌝ }
 {
     if r.over {
@@ -151,7 +150,7 @@ fn cut(input: &mut [u8], output: &mut [u8], r: Run) -> Run
             stop(output, r)
         }
     } else {
-        refill(input, r)
+        refill(fd, input, r)
     }
 }
 
@@ -199,7 +198,7 @@ fn event(table: &mut [u8], output: &mut [u8], r: Run, e: Event, frame: &[u8], si
 }
 
 // One record, or more input.
-pub fn turn(table: &mut [u8], input: &mut [u8], output: &mut [u8], r: Run) -> Run
+pub fn turn(fd: i32, table: &mut [u8], input: &mut [u8], output: &mut [u8], r: Run) -> Run
     ensures { λ q. ⌜ TurnOf (now (table .entry)) (now (input .entry)) (now (output .entry)) r (now (table .exit)) (now (input .exit)) (now (output .exit)) q ⌝ }
 {
     let at = r.at;
@@ -213,7 +212,7 @@ pub fn turn(table: &mut [u8], input: &mut [u8], output: &mut [u8], r: Run) -> Ru
     let t = take(&input[at..have], r.first);
     match t {
         Taken::Fault => stop(output, r),
-        Taken::Cut => cut(input, output, r),
+        Taken::Cut => cut(fd, input, output, r),
         Taken::First(s) => begin(r, s, record_length(&input[at..have])),
         Taken::Next(e) => {
             let s = &input[at..have];
@@ -223,10 +222,10 @@ pub fn turn(table: &mut [u8], input: &mut [u8], output: &mut [u8], r: Run) -> Ru
 }
 
 // The same; and where that is the end, or little room is left, the lines are written out. This alone writes, and `refill` alone reads.
-pub fn round(table: &mut [u8], input: &mut [u8], output: &mut [u8], r: Run) -> Run
+pub fn round(fd: i32, table: &mut [u8], input: &mut [u8], output: &mut [u8], r: Run) -> Run
     ensures { λ q. ⌜ Rounded (now (table .entry)) (now (input .entry)) (now (output .entry)) r (now (table .exit)) (now (input .exit)) (now (output .exit)) q ⌝ }
 {
-    let next = turn(table, input, output, r);
+    let next = turn(fd, table, input, output, r);
     if next.done {
         return flush(output, next);
     }

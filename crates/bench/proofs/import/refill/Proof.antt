@@ -74,8 +74,8 @@ part-count-end c = search needs
 count-requires : tie.Need-count-requires
 count-requires c κs = search needs
 
-forward-requires : tie.Need-forward-requires
-forward-requires c κs = search needs
+behind-requires : tie.Need-behind-requires
+behind-requires c κs = search needs
 
 same-length-2 : tie.Need-same-length-2
 same-length-2 c = search needs
@@ -100,6 +100,6 @@ refill-spec =
     part-count-start
     part-count-end
     count-requires
-    forward-requires
+    behind-requires
     same-length-2
     returns-2)
