@@ -88,8 +88,8 @@ def _links(event, before, settings, say):
 def _under_way(event, before, say):
     """The exchange that a primitive would have to wait for: the peer's own, or any to join."""
     own = before.get(event.peer)
-    busy = own if own and own.exchange else next(
-        (record for record in before.values() if record.exchange and (record.exchange - 1) % 3), None)
+    busy = own if own and own.exchange else min(
+        (record for record in before.values() if record.exchange and (record.exchange - 1) % 3), default=None)
     if busy is None:
         return codes.REFUSALS[9]
     return f"{codes.KINDS[(busy.exchange - 1) % 3 + 1]} with {say(busy.address)} is under way"
@@ -97,7 +97,7 @@ def _under_way(event, before, say):
 
 def _no_match(event, value, before, say):
     """Refusal 7, with the state of the peer."""
-    joined = next((record for record in before.values() if record.state > 2 and record.address != event.peer), None)
+    joined = min((record for record in before.values() if record.state > 2 and record.address != event.peer), default=None)
     if event.primitive == 4 and joined:
         return f"we are associated with {say(joined.address)}: reassociate instead"
     said = codes.REFUSAL_7.get(event.primitive, "no matching exchange or state").replace("the peer", say(event.peer), 1)

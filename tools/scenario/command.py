@@ -1,5 +1,6 @@
 """The command line of scenario."""
 
+import gc
 import os
 import shlex
 import sys
@@ -13,6 +14,8 @@ from .values import Fault, visible
 
 USAGE = "scenario [--table | --lines | --octets | --check | --chart OUT.svg] FILE, or scenario --help [WORD]"
 OPTIONS = ("--table", "--lines", "--octets", "--check", "--chart", "--from")
+# Nothing here refers to itself, so what is no longer needed goes at once; Python need not look for it but after so many objects.
+SELDOM = 100_000
 # Options with a value behind them.
 VALUED = ("--chart", "--bench", "--from", "--settings")
 
@@ -160,6 +163,7 @@ def play(words):
 
 def main(words):
     """Ends with 0, or with 1 and what is wrong on standard error; a pipe whose reader has seen enough is no fault."""
+    gc.set_threshold(SELDOM)
     try:
         return play(words)
     except ScenarioFault as fault:

@@ -153,14 +153,15 @@ def _told(wanted, answer, at, say):
 
 def _record(wanted, peer, record, say):
     """What a record has in place of what is expected of it."""
-    name = say(peer)
     if record is None:
         none = wanted.value in (None, 0, ()) and wanted.word != "place" or wanted.value is None
-        return "" if none else f"{name} has no record"
-    has = {"state": record.state, "hold": record.hold, "place": record.place, "links": record.links,
-           "query": record.query, "exchange": (record.exchange - 1) % 3 + 1 if record.exchange else 0}[wanted.word]
+        return "" if none else f"{say(peer)} has no record"
+    has = getattr(record, wanted.word)
+    if wanted.word == "exchange" and has:
+        has = (has - 1) % 3 + 1
     if has == wanted.value:
         return ""
+    name = say(peer)
     if wanted.word == "links":
         return f"{name} has {told.links(record, say) or 'no links'}"
     named = {"query": QUERIES, "exchange": EXCHANGES}.get(wanted.word, {})

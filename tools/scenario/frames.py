@@ -1,5 +1,7 @@
 """Frames from words and words from frames; the octets are laid out by bench_input."""
 
+import functools
+
 from tools import bench_input as bench
 
 from . import frame_words
@@ -12,6 +14,8 @@ AID_MARK = 0xC000
 COMEBACK_HEAD = bytes((bench.TIMEOUT_INTERVAL, 5, bench.COMEBACK))
 # Data subtypes with this bit have a QoS Control field of two octets behind the header.
 QOS = 8
+# So many frames that were read are kept: a table sends the same ones again and again.
+MOST_KEPT = 1024
 
 
 def default(row, settings, given):
@@ -135,8 +139,9 @@ def _split_body(row, rest):
     return fields
 
 
+@functools.lru_cache(MOST_KEPT)
 def decode(octets):
-    """The word of a frame and its fields; None where no word writes exactly these octets."""
+    """The word of a frame and its fields, to be read alone; None where no word writes exactly these octets."""
     row = word_of(octets)
     if row is None:
         return None

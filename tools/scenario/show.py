@@ -4,6 +4,7 @@ from tools import bench_input as bench
 
 from . import codes, expect, merge, words
 from .names import Names
+from .read import DATA
 from .values import visible
 
 INDENT = "    "
@@ -12,15 +13,16 @@ MOST_KEPT = 8192
 # Refusals that are told with other records than the peer's; so is refusal 7 of primitive 4.
 OF_OTHERS = (3, 9)
 ELSEWHERE = 7, 4
-# The first octets of data frames: of these nothing further is told.
-DATA = {bench.frame_control(bench.DATA, subtype)[:1] for subtype in range(16)}
 PROTECTION = {0: "management frames not protected", 1: "management frames protected"}
 
 
+def below(number, text):
+    """A text that has the event's number before its first line: the others stand below that."""
+    return text.replace("\n", "\n" + " " * len(f"{INDENT}{number}  ")) if "\n" in text else text
+
+
 def _numbered(number, text):
-    """The event's number before the first line, the others below it."""
-    head = f"{INDENT}{number}  "
-    return head + text.replace("\n", "\n" + " " * len(head))
+    return f"{INDENT}{number}  {below(number, text)}"
 
 
 def _settings(settings, again, say):
@@ -48,7 +50,8 @@ class Teller:
     def __init__(self, with_table=False):
         self.names, self.settings, self.with_table = Names(), None, with_table
         self.expected, self.failed = 0, []
-        self._played, self._kept = [], {}
+        # What was told of events with numbers below this one, all of the same width.
+        self._played, self._kept, self._wider = [], {}, 1
 
     def begin(self, line):
         """Takes what a line says of names and settings; the words for settings, else none."""
@@ -58,7 +61,7 @@ class Teller:
         if line.named:
             self.names.define(*line.named)
             return []
-        again, self.settings = self.settings is not None, line.settings
+        again, self.settings, self._wider = self.settings is not None, line.settings, 1
         self.names.set_own(line.settings.own)
         return [_settings(line.settings, again, self.names.say)]
 
@@ -75,19 +78,21 @@ class Teller:
 
     def line(self, line, played):
         """A line of the scenario and what is told below it."""
-        told = [visible(line.text)]
-        if line.named or line.settings:
-            told += self.begin(line)
+        text = line.text if line.text.isprintable() else visible(line.text)
+        if line.named or line.settings or line.remark or len(played) > 1 or self.with_table:
+            text = "\n".join([text, *self._beside(line, played)])
+        elif played:
+            text = f"{text}\n{INDENT}{played[0][1].number}  {self._again(played[0])}"
+        self._played = played or self._played
+        came = self.judge(line, played) if line.expect else ""
+        return f"{text}\n{INDENT}NOT MET: {came}\n" if came else text + "\n"
+
+    def _beside(self, line, played):
+        """What is told below a line that is more than one event."""
+        told = self.begin(line)
         if line.remark:
             told.append(INDENT + line.remark)
-        if len(played) == 1:
-            told.append(self._one(played[0]))
-        elif played:
-            told += self._events(played)
-        came = self.judge(line, played)
-        if came:
-            told.append(f"{INDENT}NOT MET: {came}")
-        return "\n".join(told) + "\n"
+        return told + (self._events(played) if len(played) > 1 else [self._one(one) for one in played])
 
     def ending(self):
         """How many expectations there were, and how many were met; nothing where there were none."""
@@ -118,30 +123,36 @@ class Teller:
         return told
 
     def _one(self, one):
-        text = self._again(one)
+        """An event with its number, and with the table after it where that is wanted."""
+        number = one[1].number
+        text = f"{INDENT}{number}  {self._again(one)}"
         if self.with_table:
-            text = "\n".join([text] + words.table(one[1], self.names.say))
-        return _numbered(one[1].number, text)
+            text += below(number, "\n" + "\n".join(words.table(one[1], self.names.say)))
+        return text
 
     def _again(self, one):
-        """The words of an event: those told before where an event of this kind did the same."""
+        """The words of an event, laid out for its number: those told before where an event of this kind did the same."""
         event, answer, before = one
-        peer = words.device(event.peer, answer.table)
-        others = answer.refusal in OF_OTHERS or (answer.refusal, event.primitive) == ELSEWHERE
-        if others or answer.changed not in ((), (peer,)):
-            return self._said(one)
-        data = event.frame[:1] in DATA
-        whole = event.raw or answer.refusal or answer.reason == "nothing-to-do" and not data
-        what = event.record if whole else (*event[1:4], event.frame[:2], b"" if data else event.frame[24:26])
-        old, new = before.get(peer), answer.table.get(peer)
-        if old and new:
-            old, new = old[2:], new[2:]  # without the place, which is not told then
-        key = what, answer.refusal, answer.value, None if answer.refusal else (answer[2:10], old, new)
+        refusal, table, changed = answer.refusal, answer.table, answer.changed
+        peer = event.peer
+        if peer is not None and peer not in table:
+            peer = words.device(peer, table)
+        if changed and changed != (peer,) or refusal and (refusal in OF_OTHERS or (refusal, event.primitive) == ELSEWHERE):
+            return below(answer.number, self._said(one))
+        if answer.number >= self._wider:
+            self._kept.clear()
+            self._wider = 10 ** len(str(answer.number))
+        if refusal:
+            key = event.record, refusal, answer.value
+        else:
+            whole = answer.reason == "group-rule" or answer.reason == "nothing-to-do" and event.frame[:1] not in DATA
+            what = event.record if whole else event.gist
+            key = what, answer[2:10], answer.value, before.get(peer), table.get(peer) if changed else ()
         told = self._kept.get(key)
         if told is None:
             if len(self._kept) >= MOST_KEPT:
                 self._kept.clear()
-            told = self._kept[key] = self._said(one)
+            told = self._kept[key] = below(answer.number, self._said(one))
         return told
 
     def _said(self, one, name=None):

@@ -9,13 +9,13 @@ import shutil
 import subprocess
 import tempfile
 
-from .answers import Answer, BenchFault, Reasons, Trace
+from .answers import NEW, NONE, Answer, BenchFault, Reasons, Trace
 from .because import fits
 
 BENCH = [str(pathlib.Path(__file__).resolve().parents[2] / "bench")]
 PIECE = 1 << 16
 SECONDS = 120
-# After so many lines it is looked what has come.
+# So many lines are handed on at once; then it is looked what has come.
 OFTEN = 64
 RT = "the Rattle kit's 'rt' is not on the PATH: install the kit, or add its bin folder to PATH"
 
@@ -100,14 +100,13 @@ class Run:
         # What was read of each child, and not yet told.
         self._answers, self._reasons = self._got = collections.deque(), collections.deque()
 
-    def add(self, line):
-        """Takes a line; waits where the program is behind."""
-        for child in self._children:
-            for event in line.events:
-                child.pending += event.record
-        self._fed += len(line.events)
-        self._lines.append(line)
+    def add(self, lines):
+        """Takes some lines; waits where the program is behind."""
+        octets = b"".join([event.record for line in lines for event in line.events])
+        self._fed += sum([len(line.events) for line in lines])
+        self._lines.extend(lines)
         for at, child in enumerate(self._children):
+            child.pending += octets
             while len(child.pending) >= PIECE:
                 self._turn(at, True)
 
@@ -135,18 +134,21 @@ class Run:
             self._got[at].extend(self._read[at].take(text))
 
     def _answered(self):
-        lines, answers, reasons, done = self._lines, self._answers, self._reasons, []
-        while lines and len(lines[0].events) <= min(len(answers), len(reasons)):
+        lines, answers, reasons, before, done = self._lines, self._answers, self._reasons, self._before, []
+        left = min(len(answers), len(reasons))
+        while lines and len(lines[0].events) <= left:
             line, played = lines.popleft(), []
             for event in line.events:
-                answer, (reason, value) = answers.popleft(), reasons.popleft()
-                if not fits(answer.refusal, answer.verdict, reason):
-                    raise BenchFault(f"the bench program's answer and reason differ at event {answer.number}: {reason}")
-                if reason != "none":
-                    answer = Answer(*answer[:-2], reason, value)
-                played.append((event, answer, self._before))
-                self._before = answer.table
+                answer, reason = answers.popleft(), reasons.popleft()
+                if reason is not NONE or answer[1] or answer[2] == "D":
+                    if not fits(answer[1], answer[2], reason[0]):
+                        raise BenchFault(f"the bench program's answer and reason differ at event {answer.number}: {reason[0]}")
+                    answer = NEW(Answer, answer[:-2] + reason)
+                played.append((event, answer, before))
+                before = answer[10]
+            left -= len(played)
             done.append((line, played))
+        self._before = before
         return done
 
     def end(self):
@@ -157,21 +159,25 @@ class Run:
 def played(lines, trace, why):
     """Each line with its events: the event, its answer, and the table before it. The program is run twice, for its
     trace and for its reasons."""
-    run = None
+    run, some = None, []
     try:
-        for count, line in enumerate(lines):
+        for line in lines:
             if line.settings:
                 if run:
+                    run.add(some)
                     yield from run.finish()
                     run.end()
-                run = Run(trace, why, line.settings)
+                run, some = Run(trace, why, line.settings), []
             if run is None:
                 yield line, []
                 continue
-            run.add(line)
-            if count % OFTEN == 0:
+            some.append(line)
+            if len(some) == OFTEN:
+                run.add(some)
                 yield from run.look()
+                some = []
         if run:
+            run.add(some)
             yield from run.finish()
     finally:
         if run:
