@@ -1,5 +1,6 @@
 pub mod RowLaws
 pub mod RowStores
+pub mod Resting
 pub mod RecordTrip
 pub mod Standings
 pub mod QueryStandings

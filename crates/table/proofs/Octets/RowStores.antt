@@ -12,17 +12,18 @@ use mathlib.Core.Bool.{Bool, false, true}
 use Rattle.octets.specs.Pick.{pick}
 use Rattle.octets.proofs.Branch.{by-bool}
 use Rattle.octets.specs.Field.{octets}
-use Rattle.octets.proofs.RowTrip.{Octets, blank-row, links-back, octets-back, row-blank}
+use Rattle.octets.proofs.RowTrip.{Octets, blank-row, links-back, octets-back}
 use Rattle.octets.proofs.RowHead.{head-row, length-row}
 use lib.ListN.{length, getD, take, drop, set, length-append, length-drop, length-map, drop-of-length-le, take-append-drop}
 use lib.Seq.{sets-eq, drop-cons, drop-drop, getD-set-same, take-all, take-suc, length-take-le, take-at, drop-at, take-nil, drop-nil, take-append-add, drop-append-add, set-split, set-out}
 use Rattle.octets.specs.Links.{linkOctets, linksAt, unlinked}
-use Rattle.octets.specs.Row.{blankAt, headIn, headOctets, noRow, queryOctets, rowAt, rowIn, rowOctets}
-use Rattle.peer.specs.Record.{freeOf}
+use Rattle.octets.specs.Row.{blankAt, headIn, headOctets, queryOctets, rowAt, rowIn, rowOctets}
+use Rattle.peer.specs.Query.{queryOf}
+use Rattle.peer.specs.Record.{exchangeOf, freeOf}
 use Rattle.peer.specs.declared.record.Record.{Record}
-use Rattle.table.specs.Rows.{recordOf, rowOf, recordsOf, octetsOf, isTable, linksOver}
+use Rattle.table.specs.Rows.{recordOf, rowOf, recordsOf, octetsOf, isTable, linksOver, queryNumbered, rowNumbered}
 use Rattle.table.proofs.Passes.Lists.{get-map}
-use Rattle.table.proofs.Octets.RowLaws.{length-records, at-place, blank-free, octets-of-records}
+use Rattle.table.proofs.Octets.RowLaws.{length-records, at-place, octets-of-records, row-of-record}
 
 take-past : {A : Type 0} (a b : List A) (n : ℕ) → length a ≡ 48 → take (48 + n) (a ++ b) ≡ a ++ take n b
 take-past a b n e = rw (← e) (take-append-add a b n)
@@ -167,18 +168,24 @@ module _ (f : Record → Record) (xs₀ : List ℕ) where
         let there : take 24 (drop (48 * i + 24) xs) ≡ linkOctets (p .links) = ap (take 24) behind ∙ sym (links-back xs₀ h (48 * i + 24) (rw n (omega arith))) ∙ ap linkOctets same in
         head-row (48 * i) (rowOf p) xs there ∙ rewritten-more p e
 
-    -- A free place that stays free needs no store.
-    pub rewritten-free : Octets xs₀ → blankAt (48 * i) xs ≡ true → f freeOf ≡ freeOf → Rewritten (i + 1) xs
-    unfolding octetsOf rowOf rowOctets headOctets queryOctets linkOctets octets
-    rewritten-free h b e =
-        let none : rowAt (48 * i) xs₀ ≡ noRow = sym row-unread ∙ blank-row (48 * i) xs b in
-        let free : getD (recordsOf xs₀) i freeOf ≡ freeOf = blank-free i xs₀ l (row-blank (48 * i) xs₀ (rw n (omega arith)) none) in
-        let zeros : take 48 (drop (48 * i) xs₀) ≡ rowOctets noRow = sym (octets-back xs₀ h (48 * i) (rw n (omega arith))) ∙ ap rowOctets none in
+    -- A row that stays as it is needs no store ..
+    pub rewritten-same : Octets xs₀ → rowNumbered (rowAt (48 * i) xs) ≡ true → f (recordOf (rowAt (48 * i) xs)) ≡ recordOf (rowAt (48 * i) xs) → Rewritten (i + 1) xs
+    unfolding octetsOf
+    rewritten-same h b e =
+        let row = rowAt (48 * i) xs in
+        let there : getD (recordsOf xs₀) i freeOf ≡ recordOf row = sym (at-place i xs₀ l) ∙ ap recordOf (sym row-unread) in
+        let kept : rowOf (f (getD (recordsOf xs₀) i freeOf)) ≡ row = ap (λ q. rowOf (f q)) there ∙ ap rowOf e ∙ row-of-record row b in
+        let mine : take 48 (drop (48 * i) xs₀) ≡ rowOctets row = sym (octets-back xs₀ h (48 * i) (rw n (omega arith))) ∙ ap rowOctets (sym row-unread) in
         let inside : i < length (recordsOf xs₀) = rw (length-records 32 0 xs₀) l in
-        let more : done (i + 1) ≡ done i ++ rowOctets noRow = rw (add-one, take-suc (recordsOf xs₀) i freeOf inside, map-append, octets-append, append-nil, free, e) in
+        let more : done (i + 1) ≡ done i ++ rowOctets row = rw (add-one, take-suc (recordsOf xs₀) i freeOf inside, map-append, octets-append, append-nil, kept) in
         let m : 48 * (i + 1) ≡ 48 * i + 48 = omega arith in
-        let split : drop (48 * i) xs₀ ≡ rowOctets noRow ++ drop (48 * i + 48) xs₀ = sym (take-append-drop 48 (drop (48 * i) xs₀)) ∙ rw (zeros, drop-drop 48 (48 * i) xs₀) in
-        w ∙ rw (split, more, m) (sym (append-assoc (done i) (rowOctets noRow) (drop (48 * i + 48) xs₀)))
+        let split : drop (48 * i) xs₀ ≡ rowOctets row ++ drop (48 * i + 48) xs₀ = sym (take-append-drop 48 (drop (48 * i) xs₀)) ∙ rw (mine, drop-drop 48 (48 * i) xs₀) in
+        w ∙ rw (split, more, m) (sym (append-assoc (done i) (rowOctets row) (drop (48 * i + 48) xs₀)))
+
+    -- .. as a free place that stays free.
+    pub rewritten-free : Octets xs₀ → blankAt (48 * i) xs ≡ true → f freeOf ≡ freeOf → Rewritten (i + 1) xs
+    unfolding recordOf exchangeOf queryOf rowNumbered queryNumbered
+    rewritten-free h b e = rewritten-same h (rw (blank-row (48 * i) xs b)) (rw (blank-row (48 * i) xs b) e)
 
   pub rewritten-none : Rewritten 0 xs₀
   unfolding octetsOf

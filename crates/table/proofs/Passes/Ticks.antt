@@ -13,7 +13,6 @@ use Rattle.octets.specs.Pick.{pick}
 use Rattle.octets.specs.Field.{octets}
 use Rattle.octets.specs.Report.{reportBytes}
 use Rattle.octets.proofs.Stores.{sets-append}
-use Rattle.peer.proofs.Sleep.{tick-free}
 use Rattle.peer.specs.Record.{freeOf}
 use Rattle.peer.specs.Tick.{tickOf}
 use Rattle.peer.specs.declared.settings.Settings.{Settings}
@@ -63,10 +62,10 @@ module _ (s : Settings) (d : ℕ) (o₀ : List ℕ) (t : List Record) (o : List 
         bytes = rw (eo, en, ← sets-append, ← step) (k .bytes);
       }
 
-  -- a free place
-  pub told-free : i < 32 → getD t i freeOf ≡ freeOf → Told s d o₀ t o n (i + 1)
+  -- a place of which nothing is told
+  pub told-nothing : i < 32 → tickOf s (getD t i freeOf) d .report ≡ 0 → Told s d o₀ t o n (i + 1)
   unfolding reportFor
-  told-free h e = told-step h [] (rw (e, tick-free s d .1)) (omega arith) n (omega arith) o refl
+  told-nothing h e = told-step h [] (rw e) (omega arith) n (omega arith) o refl
 
   -- after the last
   pub told-count : 32 ≤ i → n ≡ length (reportsOf s d 0 t)

@@ -23,14 +23,16 @@ ghost use mathlib.Core.List.{map};
 ghost use lib.Dec.{ltb};
 ghost use lib.ListN.{length, getD, set};
 ghost use lib.Seq.{sets};
-ghost use Prim.Native.Nat.{_*_, _≤_};
+ghost use Prim.Native.Nat.{ℕ, _*_, _≤_};
 ghost use Rattle.octets.specs.Pick.{pick};
 ghost use Rattle.octets.specs.Row.{headIn, rowIn};
 ghost use Rattle.peer.specs.Association.{partedOf};
 ghost use Rattle.peer.specs.Record.{freeOf};
+ghost use Rattle.peer.specs.Tick.{tickOf};
+ghost use Rattle.peer.specs.declared.settings.Settings.{Settings as Given};
 ghost use Rattle.table.specs.Pass.{clockedOf, reportsOf};
 ghost use Rattle.table.specs.Places.{addressesOf, findOf, onFound};
-ghost use Rattle.table.specs.Rows.{recordOf, rowOf, recordsOf, octetsOf, isTable, linksOver};
+ghost use Rattle.table.specs.Rows.{recordOf, rowOf, recordsOf, octetsOf, isTable, linksOver, rowNumbered};
 ghost use Rattle.table.specs.Seat.{metOf, peerOf};
 ghost use Rattle.table.specs.declared.rules.seat.Found.the-variants as found;
 
@@ -197,6 +199,28 @@ pub(crate) fn met(table: &mut [u8], c: Change, linking: bool)
     }
 }
 
+// Whether a row waits for nothing, and is not to be freed: no time, no hold, no query, and not State 1. A clock step leaves it as it is.
+fn resting(r: Row) -> bool
+    ensures { λ x. ⌜ (x ≡ true → (rowNumbered r ≡ true) × ((s : Given) (d : ℕ) → tickOf s (recordOf r) d ≡ record { peer = recordOf r; report = 0 })) ⌝ }
+{
+    if r.hold != 0 {
+        return false;
+    }
+    if r.left != 0 {
+        return false;
+    }
+    if r.state == Record::STATE_1 {
+        return false;
+    }
+    if r.query != 0 {
+        return false;
+    }
+    if r.remaining != 0 {
+        return false;
+    }
+    r.exchange <= 9
+}
+
 // A clock step at each place in turn: every time falls, and what ended is reported. Gives how many octets of reports were written.
 pub(crate) fn clock(s: Settings, table: &mut [u8], d: u16, out: &mut [u8]) -> u16
     requires { ⌜ (length (now table) ≡ 1536) × (256 ≤ length (now out)) ⌝ }
@@ -207,8 +231,8 @@ pub(crate) fn clock(s: Settings, table: &mut [u8], d: u16, out: &mut [u8]) -> u1
     while i < 32 {
         let at = i;
         i += 1;
-        // A free place has nothing to wait for.
-        if blank_at(&*table, 48 * at) {} else {
+        // Nor does a free place wait for anything. The row is read anew where it does: its links are not read before.
+        if resting(row_at(&*table, 48 * at)) {} else {
             let p = look(&*table, at);
             let q = tick(s, p, d);
             n = put_report(&mut *out, n, at as u8, q.report, p.address);
