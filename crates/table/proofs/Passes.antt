@@ -7,3 +7,4 @@ pub mod Tallies
 pub mod Ticks
 pub mod Views
 pub mod Marks
+pub mod Commons

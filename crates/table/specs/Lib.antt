@@ -5,6 +5,7 @@ pub mod Answer
 pub mod Seat
 pub mod Refusals
 pub mod Read
+pub mod Common
 pub mod Receive
 pub mod Ask
 pub mod Link

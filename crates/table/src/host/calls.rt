@@ -6,9 +6,12 @@ use crate::host::rows::peer_at;
 use crate::host::rows::vacancy;
 use crate::host::seek::find_link;
 use crate::host::seek::seek;
+use crate::host::seek::shown;
+use crate::host::seek::state_at;
 use crate::host::survey::survey;
 use crate::rules::answer::Answer;
 use crate::rules::ask::asked_at;
+use crate::rules::common::quiet;
 use crate::rules::others::others;
 use crate::rules::read::Reading;
 use crate::rules::read::read;
@@ -50,6 +53,11 @@ fn heard_at(s: Settings, table: &[u8], linked: bool, r: Reading) -> Change
             heard,
         } => {
             let at = seek(table, linked, peer);
+            let state = state_at(table, at);
+            // Most frames are admitted, and that is all.
+            if quiet(s.role, sort, state, heard) {
+                return settled(Answer::admitted(shown(at, state)));
+            }
             heard_from(
                 s,
                 vacancy(table, at),

@@ -43,14 +43,14 @@ fn maximum_in(s: &[u8]) -> u16
     if s.len() < 18 { 1000 } else { u16_at(s, 16) }
 }
 
-// All fields, as a program in C lends them. The compiler knows the length then, and looks for the end at no field.
+// All fields, as a program in C lends them. The compiler knows the length then, and looks for the end at no field. The network's address is read
+// last: read earlier, what follows it would be shared with the shorter settings, by a jump.
 fn all_in(s: &[u8]) -> Settings
     requires { ⌜ length (now s) ≡ 24 ⌝ }
     ensures { λ r. ⌜ r ≡ settingsIn (now (s .entry)) ⌝ }
 {
     Settings {
         own: address_at(s, 1),
-        network: address_at(s, 18),
         authentication: u16_at(s, 8),
         association: u16_at(s, 10),
         role: octet_at(s, 0),
@@ -59,6 +59,7 @@ fn all_in(s: &[u8]) -> Settings
         protection: octet_at(s, 13),
         retry: u16_at(s, 14),
         maximum: u16_at(s, 16),
+        network: address_at(s, 18),
     }
 }
 

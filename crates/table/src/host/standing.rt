@@ -141,7 +141,7 @@ pub(crate) fn row_standing(s: Settings, r: Row) -> Standing
     exchange_standing(s.role, r.exchange, r.state, r.left)
 }
 
-// Whether a row is well formed, as if it had no links, and has neither an exchange nor a query: most rows. The tests that other rows fail
+// Whether a row is well formed, as if it had no links, and has neither an exchange nor a query nor a hold: most rows. The tests that other rows fail
 // come first.
 pub(crate) fn plain(s: Settings, r: Row) -> bool
     requires { ⌜ settingsFit s ≡ true ⌝ }
@@ -171,7 +171,7 @@ pub(crate) fn plain(s: Settings, r: Row) -> bool
     if valid(r.address) {} else {
         return false;
     }
-    hold_fits(s.role, r.hold)
+    r.hold == 0
 }
 
 // The links of a row: none, or at an access point.

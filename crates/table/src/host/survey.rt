@@ -121,7 +121,7 @@ fn used(table: &[u8]) -> usize
     0
 }
 
-// Whether any place has links, of those up to the last one in use: four are looked at in each turn.
+// Whether any place has links, of those up to the last one in use: four are looked at in each turn, and the last turn goes on without a jump.
 fn any_linked(table: &[u8], n: usize) -> bool
     requires { ⌜ (length (now table) ≡ 1536) × (n ≤ 32) × (n % 4 ≡ 0) × ((i : ℕ) → n ≤ i → i < 32 → blankAt (48 * i) (now table) ≡ true) ⌝ }
     ensures { λ r. ⌜ r ≡ linkedIn (recordsOf (now (table .entry))) ⌝ }
@@ -130,14 +130,21 @@ fn any_linked(table: &[u8], n: usize) -> bool
     if table.len() != 1536 {
         return false;
     }
-    let mut i = n;
-    while 3 < i {
-        i -= 4;
-        if linkless_four(table, 48 * i) {} else {
-            return true;
-        }
+    if n < 4 {
+        return false;
     }
-    false
+    // Never so: it tells the compiler that there are no more places.
+    if 32 < n {
+        return false;
+    }
+    let mut i = n - 4;
+    while linkless_four(table, 48 * i) {
+        if i < 4 {
+            return false;
+        }
+        i -= 4;
+    }
+    true
 }
 
 // Whether the place before one is a row of which no more is to be asked: a plain one, and no row behind it has its mark.

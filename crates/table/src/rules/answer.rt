@@ -3,6 +3,7 @@ use peer::record::Record;
 use peer::reply::Reply;
 use peer::turn::Turn;
 ghost use mathlib.Core.Path.{_≡_};
+ghost use Rattle.peer.specs.Turn.{admit};
 ghost use Rattle.table.specs.Answer.{refusalAnswer, verdictAnswer, turnAnswer, countAnswer};
 
 #[repr(C)]
@@ -65,6 +66,22 @@ impl Answer {
             notice: 0,
             ds: 0,
             state: 0,
+        }
+    }
+
+    // A frame of a peer that is admitted, with the state to show; nothing else is told.
+    pub fn admitted(state: u8) -> Answer
+        ensures { λ r. ⌜ r ≡ record { current = 0; code = 0; written = 0; refusal = 0; verdict = admit; notice = 0; ds = 0; state = state } ⌝ }
+    {
+        Answer {
+            current: 0,
+            code: 0,
+            written: 0,
+            refusal: 0,
+            verdict: Turn::ADMIT,
+            notice: 0,
+            ds: 0,
+            state,
         }
     }
 

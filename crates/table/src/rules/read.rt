@@ -1,15 +1,23 @@
 // A received frame, read once: the steps that are settled before a record is looked up.
+use crate::rules::common::common;
 use octets::address::group;
 use octets::address::valid;
 use octets::element::broken;
 use octets::field::address_at;
+use octets::field::octet_at;
 use octets::heard::Heard;
 use octets::shape::Shape;
 use octets::shape::measure;
 use octets::sort::Sort;
 use octets::sort::sorted;
 ghost use mathlib.Core.Path.{_≡_};
+ghost use mathlib.Core.Bool.{true};
+ghost use Rattle.octets.specs.Address.{groupOf};
+ghost use Rattle.octets.specs.Field.{field};
+ghost use Rattle.octets.specs.declared.heard.Heard.the-variants as heard;
+ghost use Rattle.octets.specs.declared.sort.Sort.the-variants as sort;
 ghost use Rattle.table.specs.Read.{forUs, readBare, readFrom, readFull, readOf};
+ghost use Rattle.table.specs.declared.rules.read.Reading.the-variants as reading;
 
 pub enum Reading {
     // A refusal number.
@@ -80,10 +88,51 @@ fn read_full(own: u64, infrastructure: bool, frame: &[u8]) -> Reading
     }
 }
 
+// Whether a frame reads as one of those that come most, from a peer, where there are access points.
+fn at_once(own: u64, infrastructure: bool, frame: &[u8]) -> bool
+    ensures { λ r. ⌜ (r ≡ true → readOf own infrastructure (now (frame .entry)) ≡ reading.From (field 6 10 (now (frame .entry))) (groupOf (field 6 4 (now (frame .entry)))) (sort.Listed (field 1 0 (now (frame .entry)))) heard.Other) ⌝ }
+{
+    if infrastructure {} else {
+        return false;
+    }
+    if frame.len() < 24 {
+        return false;
+    }
+    if 4096 < frame.len() {
+        return false;
+    }
+    if common(octet_at(frame, 0)) {} else {
+        return false;
+    }
+    if for_us(own, address_at(frame, 4)) {} else {
+        return false;
+    }
+    let from = address_at(frame, 10);
+    if from == own {
+        return false;
+    }
+    valid(from)
+}
+
+// The reading of such a frame.
+fn read_common(frame: &[u8]) -> Reading
+    ensures { λ r. ⌜ r ≡ reading.From (field 6 10 (now (frame .entry))) (groupOf (field 6 4 (now (frame .entry)))) (sort.Listed (field 1 0 (now (frame .entry)))) heard.Other ⌝ }
+{
+    Reading::From {
+        peer: address_at(frame, 10),
+        group: group(address_at(frame, 4)),
+        sort: Sort::Listed(octet_at(frame, 0)),
+        heard: Heard::Other,
+    }
+}
+
 // A frame, where there are access points or in an ad hoc network.
 pub fn read(own: u64, infrastructure: bool, frame: &[u8]) -> Reading
     ensures { λ r. ⌜ r ≡ readOf own infrastructure (now (frame .entry)) ⌝ }
 {
+    if at_once(own, infrastructure, frame) {
+        return read_common(frame);
+    }
     let shape = measure(frame);
     match shape {
         Shape::Misfit => Reading::Refused(3),

@@ -1,13 +1,25 @@
 -- `table::host::standing::plain` meets its contract: the row fits, or the promise says nothing.
 -- Assumes nothing.
+use Prim.Native.Nat.{ℕ}
 use Rattle.peer.proofs.Fits.{wrong}
+use Rattle.peer.specs.Fit.{holdFits}
+use Rattle.peer.specs.Settings.{roleAsks}
 use Rattle.table.proofs.Octets.Standings.{plain-stands}
 use borrow.Author.Needs.{needs}
-use borrow.Author.Tests.{le-leb, ne-eqb}
-use mathlib.Core.Path.{_∙_, sym}
+use borrow.Author.Tests.{eqb-true, le-leb, ne-eqb}
+use mathlib.Core.Bool.{Bool, true, false, _||_}
+use mathlib.Core.Path.{_∙_, _≡_, refl, sym}
 use native.Mathlib.Omega.{arith}
 use Rattle.table.proofs.host.standing.plain.Statement.{statement}
 use Rattle.table.proofs.host.standing.plain.Tie as tie
+
+fits-none : (role hold : ℕ) → hold ≡ 0 → holdFits role hold ≡ true
+unfolding holdFits
+fits-none role hold e = rw e (either (roleAsks role))
+  where
+    either : (b : Bool) → (b || true) ≡ true
+    either true = refl
+    either false = refl
 
 returns : tie.Need-returns
 returns c = λ t. wrong t
@@ -39,13 +51,10 @@ valid-requires c κs = search needs
 returns-8 : tie.Need-returns-8
 returns-8 c = λ t. wrong t
 
-hold-fits-requires : tie.Need-hold-fits-requires
-hold-fits-requires c κs = search needs
-
 returns-9 : tie.Need-returns-9
 returns-9 c =
     let start = c .before .before .before .before .before .before .before .before .before .before .before .before .before .before .before .before .before .before .before in
-    λ t. plain-stands (start .args .s) (start .args .r) (le-leb _ _ (c .before .before .before .before .before .before .before .before .before .before .before .before .before .if3 .left)) (rw (← c .before .before .before .before .before .before .before .before .before .before .before .before .highest .ensures) (le-leb _ _ (c .before .before .before .before .before .before .before .before .before .before .if4 .left))) (ne-eqb _ _ (c .before .before .before .if7 .left)) (sym (c .before .before .valid .ensures) ∙ c .before .if8 .taken) (sym (c .hold-fits .ensures) ∙ t) (omega (arith, start .good)) (c .before .before .before .before .before .before .before .before .before .before .before .before .before .before .before .before .before .if1 .left) (c .before .before .before .before .before .before .before .before .before .before .before .before .before .before .before .if2 .left) (c .before .before .before .before .before .before .before .before .if5 .left) (c .before .before .before .before .before .before .if6 .left)
+    λ t. plain-stands (start .args .s) (start .args .r) (le-leb _ _ (c .before .before .before .before .before .before .before .before .before .before .before .before .before .if3 .left)) (rw (← c .before .before .before .before .before .before .before .before .before .before .before .before .highest .ensures) (le-leb _ _ (c .before .before .before .before .before .before .before .before .before .before .if4 .left))) (ne-eqb _ _ (c .before .before .before .if7 .left)) (sym (c .before .before .valid .ensures) ∙ c .before .if8 .taken) (fits-none (start .args .s .role) (start .args .r .hold) (eqb-true _ _ t)) (omega (arith, start .good)) (c .before .before .before .before .before .before .before .before .before .before .before .before .before .before .before .before .before .if1 .left) (c .before .before .before .before .before .before .before .before .before .before .before .before .before .before .before .if2 .left) (c .before .before .before .before .before .before .before .before .if5 .left) (c .before .before .before .before .before .before .if6 .left)
 
 pub plain-spec : {M : Type 1} → statement M
 plain-spec =
@@ -61,5 +70,4 @@ plain-spec =
     returns-7
     valid-requires
     returns-8
-    hold-fits-requires
     returns-9)
