@@ -28,37 +28,46 @@ const char *qemu_plugin_insn_symbol(const struct qemu_plugin_insn *);
 #define SHOWN __attribute__((visibility("default")))
 SHOWN int qemu_plugin_version = 1;
 
-enum { FUNCTIONS = 4096 };
+enum { FUNCTIONS = 4096, PAGE = 4096 };
 struct function { char *name; uint64_t instructions; };
 static struct function functions[FUNCTIONS];
 static size_t function_count;
 static uint64_t instructions, taken;
 static uint64_t behind_last; /* the address behind the block that ran last */
+static uint64_t cut_off;     /* the address of its last instruction, where a page ends there; else 0 */
 static _Bool by_function;
 
-/* A run of straight-line code, as the emulator cuts it: its first address, and the one behind its last instruction. */
-struct block { uint64_t first, behind; };
+/* A run of straight-line code, as the emulator cuts it: its first address, the one behind its last instruction, and that of its last
+   instruction where a page ends in it or behind it, else 0. */
+struct block { uint64_t first, behind, cut_off; };
 
-/* A block that does not begin where the last one ended was branched to. */
+/* A block that does not begin where the last one ended was branched to. An instruction on two pages the emulator shows at the end of one
+   block and runs at the start of the next: it is neither a branch nor a second instruction. */
 static void entered(unsigned processor, void *given)
 {
     const struct block *block = given;
 
     (void)processor;
-    taken += block->first != behind_last;
+    if (cut_off && block->first == cut_off)
+        instructions--;
+    else
+        taken += block->first != behind_last;
     behind_last = block->behind;
+    cut_off = block->cut_off;
 }
 
 /* Lives as long as the program runs: the emulator may come back to it at any time. */
 static struct block *block_of(const struct qemu_plugin_tb *tb, size_t length)
 {
     const struct qemu_plugin_insn *last = qemu_plugin_tb_get_insn(tb, length - 1);
+    uint64_t start = qemu_plugin_insn_vaddr(last), behind = start + qemu_plugin_insn_size(last);
     struct block *block = malloc(sizeof *block);
 
     if (!block)
         abort();
     block->first = qemu_plugin_insn_vaddr(qemu_plugin_tb_get_insn(tb, 0));
-    block->behind = qemu_plugin_insn_vaddr(last) + qemu_plugin_insn_size(last);
+    block->behind = behind;
+    block->cut_off = start / PAGE != behind / PAGE ? start : 0;
     return block;
 }
 
