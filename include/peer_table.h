@@ -33,6 +33,15 @@
  *   A refusal (1 to 9) has every other field 0 and leaves all octets of table and out as they were.
  *   Everything else is done at once: the frame in `out` is to be sent, the notice is to be passed on, the table is the new one.
  *
+ * Many events in one call
+ *   peer_run plays events that were gathered, as a radio hands over a queue of frames: the same as the single calls one after the other, with one check of table and
+ *   settings for all of them. peer_run_receive, peer_run_ask, peer_run_pass and peer_run_links put an event behind others; answers[i] is the i-th one's, and what it wrote
+ *   begins at peer_run_written(answers, i). Where it gives fewer than there are, room was short: send what was written, and go on from peer_run_taken.
+ *
+ *     size_t octets = peer_run_receive(records, 0, sizeof records, frame, frame_octets);
+ *     octets = peer_run_receive(records, octets, sizeof records, next_frame, next_octets);
+ *     size_t played = peer_run(&table, &ap, records, octets, out, sizeof out, answers, 64);
+ *
  * Why a frame was dropped
  *   peer_why_receive, peer_why_ask, peer_why_links and peer_why_pass name the first rule that decides such a call, and a value beside it; they change
  *   nothing. They are for installers, not for the air: each looks at the whole table once more. Ask before the call itself is made.
@@ -241,6 +250,95 @@ static inline peer_answer peer_pass(peer_table *table, const peer_settings *sett
     peer_pass_octets((uint8_t *)table, sizeof *table, (const uint8_t *)settings, sizeof *settings, step,
                      out, out_octets, (uint8_t *)&answer, sizeof answer);
     return answer;
+}
+
+/* The head of a record behind `octets` others; gives where its body begins, 0 where the room is too short for both. */
+static inline size_t peer_run_head(uint8_t *records, size_t octets, size_t room, uint8_t kind, size_t body)
+{
+    if (octets > room || room - octets < PEER_RUN_HEAD_OCTETS || room - octets - PEER_RUN_HEAD_OCTETS < body)
+        return 0;
+    records[octets] = PEER_RUN_MARK_FIRST;
+    records[octets + 1] = PEER_RUN_MARK_SECOND;
+    records[octets + 2] = kind;
+    records[octets + 3] = (uint8_t)(body & 0xff);
+    records[octets + 4] = (uint8_t)(body >> 8);
+    return octets + PEER_RUN_HEAD_OCTETS;
+}
+
+/* Puts a frame that was received behind `octets` of records; gives how many there are then. 0, and nothing is written, where the room is too short or the
+   frame is over 4,096 octets. So do the next three, with what the single calls take. */
+static inline size_t peer_run_receive(uint8_t *records, size_t octets, size_t room, const uint8_t *frame, size_t frame_octets)
+{
+    size_t at = frame_octets > PEER_FRAME_LONGEST ? 0 : peer_run_head(records, octets, room, PEER_RUN_RECEIVE, frame_octets), i;
+
+    for (i = 0; at > 0 && i < frame_octets; i++)
+        records[at + i] = frame[i];
+    return at > 0 ? at + frame_octets : 0;
+}
+
+/* What six octets do not hold is as invalid as the zeros that stand for it. */
+static inline size_t peer_run_ask(uint8_t *records, size_t octets, size_t room, uint8_t primitive, uint64_t address, uint16_t code)
+{
+    size_t at = peer_run_head(records, octets, room, PEER_RUN_ASK, PEER_ADDRESS_OCTETS + 3);
+
+    if (at == 0)
+        return 0;
+    records[at] = primitive;
+    peer_address_write(address >> 48 == 0 ? address : 0, records + at + 1);
+    records[at + 7] = (uint8_t)(code & 0xff);
+    records[at + 8] = (uint8_t)(code >> 8);
+    return at + PEER_ADDRESS_OCTETS + 3;
+}
+
+static inline size_t peer_run_pass(uint8_t *records, size_t octets, size_t room, uint16_t step)
+{
+    size_t at = peer_run_head(records, octets, room, PEER_RUN_PASS, 2);
+
+    if (at == 0)
+        return 0;
+    records[at] = (uint8_t)(step & 0xff);
+    records[at + 1] = (uint8_t)(step >> 8);
+    return at + 2;
+}
+
+/* Also 0 where links are over four: no record says so. */
+static inline size_t peer_run_links(uint8_t *records, size_t octets, size_t room, uint64_t device, const uint64_t *links, size_t count)
+{
+    uint8_t named[PEER_NAMED_OCTETS_MOST];
+    size_t body = count > PEER_LINKS ? 0 : peer_named_write(device, links, count, named);
+    size_t at = body == 0 ? 0 : peer_run_head(records, octets, room, PEER_RUN_LINKS, body), i;
+
+    for (i = 0; at > 0 && i < body; i++)
+        records[at + i] = named[i];
+    return at > 0 ? at + body : 0;
+}
+
+/* Plays the events of records, as many as there is room for; gives how many. Each has its answer, in their order. */
+static inline size_t peer_run(peer_table *table, const peer_settings *settings, const uint8_t *records, size_t record_octets,
+                              uint8_t *out, size_t out_octets, peer_answer *answers, size_t answer_count)
+{
+    return (size_t)peer_run_octets((uint8_t *)table, sizeof *table, (const uint8_t *)settings, sizeof *settings, records, record_octets,
+                                   out, out_octets, (uint8_t *)answers, (uint64_t)answer_count * sizeof *answers);
+}
+
+/* How many octets of out the first events wrote: there the next one's begin. */
+static inline size_t peer_run_written(const peer_answer *answers, size_t count)
+{
+    size_t written = 0, i;
+
+    for (i = 0; i < count; i++)
+        written += answers[i].written;
+    return written;
+}
+
+/* How many octets the records of the first events take, of those that peer_run has played: there the next one begins. */
+static inline size_t peer_run_taken(const uint8_t *records, size_t count)
+{
+    size_t taken = 0;
+
+    for (; count > 0; count--)
+        taken += PEER_RUN_HEAD_OCTETS + ((size_t)records[taken + 3] | (size_t)records[taken + 4] << 8);
+    return taken;
 }
 
 /* Why peer_receive would come to what it does, lent a buffer of so many octets. */

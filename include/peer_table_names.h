@@ -32,6 +32,14 @@ static inline const char *peer_why_name(unsigned number)
     return PEER_NAME_IN(names, number);
 }
 
+/* The kind of a record that peer_run takes. */
+static inline const char *peer_run_kind_name(unsigned number)
+{
+    static const char *const names[] = { "no event", "our own side asks", "frame received", "time passed", "links named" };
+
+    return PEER_NAME_IN(names, number);
+}
+
 static inline const char *peer_verdict_name(unsigned number)
 {
     static const char *const names[] = { "no verdict", "admitted", "discarded" };

@@ -17,6 +17,17 @@
  * The result is the refusal's number. A refusal writes its number and zeros into the answer, and leaves table and out. Where the answer
  * is too short, which is refusal 1, nothing at all is written.
  *
+ * A fifth call makes many of these: peer_run_octets is lent records, each an event, and makes the single calls one after the other, with one check of settings
+ * and table at the start. A record is the mark 0B 03, its kind 1, the length of its body 2, and the body:
+ *   kind 1     a primitive: its number 1, the peer's address 6, the code 2
+ *   kind 2     a frame, of at most 4,096 octets
+ *   kind 3     a clock step 2
+ *   kind 4     links named: as above, so many as the count says
+ * Each answer takes 24 octets behind the one before, and what an event writes goes behind what the one before it wrote: of out, each is lent what is left. The result is
+ * how many events were played. It stops behind the last record; at one that is cut, of another mark or kind, or of a length that its kind has not; where
+ * fewer than 24 octets are left for the answer; and where out has less left than the event's own call needs. What was played until then stands, and octets
+ * beyond stay as they were. Where settings or table are not well formed, each event is answered by refusal 2.
+ *
  * Each of the four calls has a fellow that says why it comes to what it does: peer_why_.. is lent the same, but table and settings to be read alone, in
  * place of out its length (room), and in place of the answer the octets for a value. The result is the reason's number. The value, 8 octets, is written at
  * the front of those lent for it; where there are fewer, it is not. */
@@ -26,7 +37,7 @@
 #include <stdint.h>
 
 /* Rises when a call, a layout or a number changes. */
-#define PEER_TABLE_VERSION 7
+#define PEER_TABLE_VERSION 8
 
 /* Sizes in octets, counts, and the times that the rules fix. A time is in TU of 1,024 microseconds. */
 enum {
@@ -47,6 +58,7 @@ enum {
     PEER_OUT_LEAST = 37,       /* a frame was received, our side asks or names links: the longest frame written */
     PEER_PASS_OUT_LEAST = 256, /* time passed: 32 timeouts */
     PEER_TIMEOUT_OCTETS = 8,   /* one timeout: place, kind, address of six octets */
+    PEER_RUN_HEAD_OCTETS = 5,  /* of a record, before its body */
     PEER_STACK_OCTETS = 2304,  /* below the caller's frame, on every target; tested, not proved: README.md has the most seen */
     PEER_HOLD_USUAL = 1954,    /* 2 s: the hold after a rejection without a comeback time, and after a disassociation received */
     PEER_QUERY_RETRY_USUAL = 201,   /* a query's times in settings that do not say them */
@@ -175,6 +187,9 @@ enum {
     PEER_SA_QUERY_REQUEST = 11      /* AP, 0: sends the request of a query that is due */
 };
 
+/* The kind of a record that peer_run_octets takes, and the two octets that each begins with */
+enum { PEER_RUN_ASK = 1, PEER_RUN_RECEIVE = 2, PEER_RUN_PASS = 3, PEER_RUN_LINKS = 4, PEER_RUN_MARK_FIRST = 0x0b, PEER_RUN_MARK_SECOND = 0x03 };
+
 /* The code of PEER_TRANSMIT_REPORT */
 enum { PEER_NOT_ACKNOWLEDGED = 0, PEER_ACKNOWLEDGED = 1 };
 
@@ -220,6 +235,11 @@ uint64_t peer_links_octets(uint8_t *table, uint64_t table_octets, const uint8_t 
 /* Time passed. */
 uint64_t peer_pass_octets(uint8_t *table, uint64_t table_octets, const uint8_t *settings, uint64_t settings_octets,
                           uint16_t step, uint8_t *out, uint64_t out_octets, uint8_t *answer, uint64_t answer_octets);
+
+/* Many events, one after the other; gives how many were played. */
+uint64_t peer_run_octets(uint8_t *table, uint64_t table_octets, const uint8_t *settings, uint64_t settings_octets,
+                         const uint8_t *records, uint64_t record_octets, uint8_t *out, uint64_t out_octets,
+                         uint8_t *answers, uint64_t answer_octets);
 
 /* Why: a frame received, our own side asking or naming links, time passed, with a buffer of so many octets. */
 uint64_t peer_why_receive_octets(const uint8_t *table, uint64_t table_octets, const uint8_t *settings, uint64_t settings_octets,

@@ -2,12 +2,13 @@
    writes them are made once each. Ends with 1 and a line for each fault. */
 #include "peer_table.h"
 #include "peer_table_names.h"
+#include "many.h"
 
 #include <stdio.h>
 #include <string.h>
 
-#if PEER_TABLE_VERSION != 7
-#error "this test is of version 7"
+#if PEER_TABLE_VERSION != 8
+#error "this test is of version 8"
 #endif
 
 static int faults;
@@ -93,6 +94,7 @@ static void names(void)
 {
     named(peer_refusal_name, 10, "the names of refusals");
     named(peer_why_name, 14, "the words of reasons");
+    named(peer_run_kind_name, 5, "the names of kinds of records");
     named(peer_verdict_name, 3, "the names of verdicts");
     named(peer_notice_name, 11, "the names of notices");
     named(peer_ds_name, 3, "the words to the distribution system");
@@ -278,5 +280,5 @@ int main(void)
     ad_hoc();
     whys();
     older_settings();
-    return faults > 0;
+    return faults + many_faults() > 0;
 }

@@ -49,8 +49,8 @@ static struct pt_answer independent(const struct call *c, struct pt_record *tabl
     return pt_clock(&s, table, c->number, out, c->out_octets);
 }
 
-/* A table or settings that the independent forms can't hold are not well formed: refusal 2, after refusal 1. `o` holds what was lent. */
-static struct pt_answer expected(const struct call *c, struct outcome *o)
+/* A table or settings that the independent forms can't hold are not well formed: refusal 2, after refusal 1. */
+struct pt_answer call_expected(const struct call *c, uint8_t *octets, uint8_t *out)
 {
     struct pt_record table[PT_PLACES];
     struct pt_answer a;
@@ -59,29 +59,21 @@ static struct pt_answer expected(const struct call *c, struct outcome *o)
         return pt_refuse(PT_BUFFER);
     if (!settings_length(c->settings_octets) || c->table_octets != PEER_TABLE_OCTETS || !table_of(c->table, table))
         return pt_refuse(PT_ILL_FORMED);
-    a = independent(c, table, o->out);
+    a = independent(c, table, out);
     if (a.refusal == PT_DONE)
-        octets_of(table, o->table);
+        octets_of(table, octets);
     return a;
 }
 
 static void expect(const struct call *c, struct outcome *o)
 {
     memcpy(o->table, c->table, c->table_octets);
-    o->answer = expected(c, o);
+    o->answer = call_expected(c, o->table, o->out);
     if (c->answer_octets >= PEER_ANSWER_OCTETS)
         octets_of_answer(&o->answer, o->octets);
 }
 
-/* One call with the memory that it is lent. */
-struct lent_call {
-    const struct call *call;
-    uint8_t *table, *settings, *frame, *out, *answer;
-    uint64_t result;
-};
-
-/* Runs on the bounded stack. */
-static void library(void *given)
+void call_library(void *given)
 {
     struct lent_call *l = given;
     const struct call *c = l->call;
@@ -98,6 +90,17 @@ static void library(void *given)
     else
         l->result = peer_pass_octets(l->table, c->table_octets, l->settings, c->settings_octets, c->number,
                                      l->out, c->out_octets, l->answer, c->answer_octets);
+}
+
+void call_bounded(const struct call *call, void (*made)(void *), void *given)
+{
+    static unsigned long calls;
+
+    call_under_way = call;
+    if (calls++ % 4096 == 0)
+        alarm(PATIENCE);
+    call_on(lent_stack(PEER_STACK_OCTETS + CALLER), made, given);
+    call_under_way = NULL;
 }
 
 static void print_change(const char *what, const uint8_t *is, const uint8_t *wanted, size_t count)
@@ -153,11 +156,7 @@ struct pt_answer checked(struct call *c, struct chance *chance)
     l.out = lend(LENT_OUT, chance, o.out, c->out_octets);
     l.answer = lend(LENT_ANSWER, chance, o.octets, c->answer_octets);
     expect(c, &o);
-    call_under_way = c;
-    if (tally_calls() % 4096 == 0)
-        alarm(PATIENCE);
-    call_on(lent_stack(PEER_STACK_OCTETS + CALLER), library, &l);
-    call_under_way = NULL;
+    call_bounded(c, call_library, &l);
     compare(&l, &o, settings);
     tally_add(c, &o.answer, o.out);
     record(c, settings, &o.answer, o.table, o.out, o.octets);

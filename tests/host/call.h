@@ -33,6 +33,22 @@ struct call {
    difference, or where the library faults or does not end, prints the whole call and ends the program with status 1. */
 struct pt_answer checked(struct call *call, struct chance *chance);
 
+/* What must come of a call, by the independent functions: the answer. `table`, a copy of the call's own, and `out` become what it leaves. */
+struct pt_answer call_expected(const struct call *call, uint8_t *table, uint8_t *out);
+
+/* One call with the memory that it is lent, and its result. */
+struct lent_call {
+    const struct call *call;
+    uint8_t *table, *settings, *frame, *out, *answer;
+    uint64_t result;
+};
+
+/* Makes the call, as it is, of a struct lent_call. */
+void call_library(void *lent);
+
+/* Makes a call of any function on a stack of PEER_STACK_OCTETS; what faults there is told as this call. */
+void call_bounded(const struct call *call, void (*made)(void *), void *given);
+
 /* The call that the library is at, or NULL. */
 extern const struct call *volatile call_under_way;
 

@@ -58,31 +58,39 @@ static void disturb(const struct call *call, struct chance *chance)
     checked(&other, chance);
 }
 
+/* The octets of the whole record that begins here, of settings or of an event; 0 where it is none. */
+static size_t record_at(const uint8_t *p, size_t count, bool settings)
+{
+    if (count < HEADER || p[0] != 0x0B || p[1] != 0x03 || (p[2] == SETTINGS) != settings)
+        return 0;
+    return count - HEADER < pt_get16(p + 3) || !length_fits(p[2], pt_get16(p + 3), p + HEADER) ? 0 : HEADER + (size_t)pt_get16(p + 3);
+}
+
+size_t event_at(const uint8_t *p, size_t count, struct call *call)
+{
+    size_t octets = record_at(p, count, false);
+
+    if (octets > 0)
+        take_event(call, p[2], p + HEADER, octets - HEADER);
+    return octets;
+}
+
 /* Ends, as the bench does, at the first record at fault. */
 static void play(const uint8_t *p, size_t count, struct call *call, struct chance *chance)
 {
-    size_t at = 0;
-    bool first = true;
+    size_t at = record_at(p, count, true), octets;
 
-    while (count - at >= HEADER) {
-        unsigned kind = p[at + 2];
-        size_t length = pt_get16(p + at + 3);
-
-        if (p[at] != 0x0B || p[at + 1] != 0x03 || (kind == SETTINGS) != first ||
-            count - at - HEADER < length || !length_fits(kind, length, p + at + HEADER))
-            return;
-        if (first) {
-            take_settings(call, p + at + HEADER, length);
-        } else {
-            take_event(call, kind, p + at + HEADER, length);
-            call->index++;
-            call->out_octets = SCRATCH;
-            if (percent(chance, 12))
-                disturb(call, chance);
-            checked(call, chance);
-        }
-        first = false;
-        at += HEADER + length;
+    if (at == 0)
+        return;
+    take_settings(call, p + HEADER, at - HEADER);
+    run_batches(call, p + at, count - at, chance);
+    while ((octets = event_at(p + at, count - at, call)) > 0) {
+        call->index++;
+        call->out_octets = SCRATCH;
+        if (percent(chance, 12))
+            disturb(call, chance);
+        checked(call, chance);
+        at += octets;
     }
 }
 

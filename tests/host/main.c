@@ -74,5 +74,5 @@ int main(int argc, char **argv)
             return 2;
     printf("%lu calls from %d files of bench records\n", tally_calls(), argc - 3 - words);
     run_all(calls, &chance);
-    return tally_print() && record_end() ? 0 : 1;
+    return tally_print() && batches_print() && record_end() ? 0 : 1;
 }

@@ -1,7 +1,7 @@
 /* main.c - the measured program.
  *   speed list                     the streams and their calls
  *   speed time STREAM              nanoseconds a call: library, independent
- *   speed count STREAM WHO ROUNDS  plays and prints nothing, for a counter: WHO is nothing, library or independent
+ *   speed count STREAM WHO ROUNDS  plays and prints nothing, for a counter: WHO is nothing, library, independent or run
  * Every run first compares the two on the stream; a difference ends it with status 1, wrong words with 2. */
 #define _POSIX_C_SOURCE 200809L
 #include "play.h"
@@ -65,16 +65,16 @@ static int list(void)
 
 static int count(const char *name, const char *who, const char *rounds)
 {
-    static const char *const players[] = { "nothing", "library", "independent" };
+    static const char *const players[] = { "nothing", "library", "independent", "run" };
 
     if (!made(name))
         return 1;
-    for (int i = 0; i < 3; i++)
+    for (int i = 0; i < 4; i++)
         if (strcmp(who, players[i]) == 0) {
             play((enum player)i, &stream, (unsigned)strtoul(rounds, NULL, 10));
             return 0;
         }
-    fprintf(stderr, "speed: no player '%s': nothing, library or independent\n", who);
+    fprintf(stderr, "speed: no player '%s': nothing, library, independent or run\n", who);
     return 2;
 }
 

@@ -1,14 +1,19 @@
-/* play.c - the three loops that are measured: the same events over the library, the independent functions, and nothing. */
+/* play.c - the four loops that are measured: the same events over the library, by single calls and many in one, the independent functions, and
+   nothing. */
 #include "play.h"
+#include "records.h"
 
 #include <stdio.h>
 #include <string.h>
 
-enum { OUT = 256 };
+enum { OUT = 256, RUNS = STREAM_EVENTS / RUN_EVENTS + 1 };
 
 static peer_table lent, first_lent;
 static struct pt_record table[PT_PLACES], first_table[PT_PLACES];
 static uint8_t out[OUT], other_out[OUT];
+static struct run runs[RUNS];
+static size_t run_count;
+static uint8_t run_out[RUN_EVENTS * OUT], answers[RUN_EVENTS * PEER_ANSWER_OCTETS];
 
 static peer_answer by_library(const peer_settings *s, const struct event *e)
 {
@@ -44,6 +49,36 @@ static bool one_compared(const struct stream *stream, const struct event *e)
     return memcmp(&a, answer, sizeof a) == 0 && memcmp(&lent, wanted, sizeof lent) == 0 && memcmp(out, other_out, OUT) == 0;
 }
 
+static uint64_t by_run(const peer_settings *s, const struct run *r)
+{
+    return peer_run_octets((uint8_t *)&lent, sizeof lent, (const uint8_t *)s, sizeof *s, r->records, r->octets, run_out, sizeof run_out,
+                           answers, sizeof answers);
+}
+
+/* The events again, many in one call, each answer beside that of its single call over a table of its own. */
+static bool run_compared(const struct stream *stream)
+{
+    peer_table after = first_lent, single = first_lent;
+    size_t at = stream->setup;
+
+    run_count = runs_of(stream, runs, RUNS);
+    for (size_t i = 0; i < run_count; i++) {
+        lent = after;
+        if (by_run(&stream->settings, &runs[i]) != runs[i].events)
+            return false;
+        after = lent;
+        lent = single;
+        for (size_t j = 0; j < runs[i].events; j++) {
+            peer_answer a = by_library(&stream->settings, &stream->events[at++]);
+
+            if (memcmp(&a, answers + j * PEER_ANSWER_OCTETS, sizeof a) != 0)
+                return false;
+        }
+        single = lent;
+    }
+    return memcmp(&after, &single, sizeof after) == 0;
+}
+
 bool play_compared(const char *name, const struct stream *stream)
 {
     memset(&lent, 0, sizeof lent);
@@ -58,6 +93,10 @@ bool play_compared(const char *name, const struct stream *stream)
             return false;
         }
     }
+    if (!run_compared(stream)) {
+        printf("speed: stream %s: many events in one call differ from the single calls\n", name);
+        return false;
+    }
     return true;
 }
 
@@ -69,6 +108,14 @@ static __attribute__((noinline)) void round_of_library(const struct stream *stre
     for (size_t i = 0; i < stream->count; i++) {
         peer_answer a = by_library(&stream->settings, &stream->events[stream->setup + i]);
         KEPT(a);
+    }
+}
+
+static __attribute__((noinline)) void round_of_runs(const struct stream *stream)
+{
+    for (size_t i = 0; i < run_count; i++) {
+        uint64_t played = by_run(&stream->settings, &runs[i]);
+        KEPT(played);
     }
 }
 
@@ -95,7 +142,7 @@ static __attribute__((noinline)) void round_of_nothing(const struct stream *stre
     }
 }
 
-/* Each round brings both tables back, whoever plays, so that this cost is the same for all three. */
+/* Each round brings both tables back, whoever plays, so that this cost is the same for all. */
 void play(enum player player, const struct stream *stream, unsigned rounds)
 {
     struct pt_settings s = settings_of(&stream->settings, PEER_SETTINGS_OCTETS);
@@ -105,6 +152,8 @@ void play(enum player player, const struct stream *stream, unsigned rounds)
         memcpy(table, first_table, sizeof table);
         if (player == PLAY_LIBRARY)
             round_of_library(stream);
+        else if (player == PLAY_RUN)
+            round_of_runs(stream);
         else if (player == PLAY_INDEPENDENT)
             round_of_independent(stream, &s);
         else

@@ -3,12 +3,12 @@
 #include "replay.h"
 #include "stack.h"
 
-enum { HEAD = 32, GUARD = 32, ALIGNMENTS = 8, PAINT = 0xA5, CHUNK = 64 };
+enum { HEAD = 32, GUARD = 32, ALIGNMENTS = 8, PAINT = 0xA5, CHUNK = 64, ANSWER_OCTETS = 24 };
 enum { TABLE, SETTINGS, FRAME, OUT, ANSWER, SLICES };
 
 /* Room for each slice, its guards and its alignment. */
 static uint8_t tables[1600 + 2 * GUARD + ALIGNMENTS], settings[64 + 2 * GUARD + ALIGNMENTS], frames[5000 + 2 * GUARD + ALIGNMENTS],
-    outs[4200 + 2 * GUARD + ALIGNMENTS], answers[64 + 2 * GUARD + ALIGNMENTS];
+    outs[4200 + 2 * GUARD + ALIGNMENTS], answers[256 + 2 * GUARD + ALIGNMENTS];
 static const struct {
     uint8_t *octets;
     size_t room;
@@ -127,10 +127,18 @@ static int next(void)
     return 1;
 }
 
+/* The octets of answers that are written: those of one, none where there is no room for it, or as many as events were played. */
+static size_t answered_octets(void)
+{
+    if (call.kind == CALL_RUN)
+        return (size_t)ANSWER_OCTETS * head[4];
+    return call.slices[ANSWER].octets < ANSWER_OCTETS ? 0 : ANSWER_OCTETS;
+}
+
 /* What is different after the call, or NULL. */
 static const char *compared(uint64_t result, uint32_t table, uint32_t unchanged)
 {
-    size_t written = (size_t)number_at(head + 16, 2), answered = call.slices[ANSWER].octets < 24 ? 0 : 24;
+    size_t written = (size_t)number_at(head + 16, 2), answered = answered_octets();
 
     if (result != head[4])
         return "the result";
@@ -142,7 +150,7 @@ static const char *compared(uint64_t result, uint32_t table, uint32_t unchanged)
         !all_paint(call.slices[ANSWER].at + answered, call.slices[ANSWER].octets - answered))
         return "the octets of the answer";
     if (sum_of_slice(SETTINGS) + sum_of_slice(FRAME) != unchanged)
-        return "the settings or the frame";
+        return "the settings, the frame or the records";
     for (unsigned i = 0; i < SLICES; i++)
         if (!all_paint(call.slices[i].at - GUARD, GUARD) || !all_paint(call.slices[i].at + call.slices[i].octets, GUARD))
             return "octets outside of what was lent";

@@ -10,6 +10,7 @@ struct functions {
     uint64_t (*ask)(uint8_t *, uint64_t, const uint8_t *, uint64_t, uint8_t, uint64_t, uint16_t, uint8_t *, uint64_t, uint8_t *, uint64_t);
     uint64_t (*pass)(uint8_t *, uint64_t, const uint8_t *, uint64_t, uint16_t, uint8_t *, uint64_t, uint8_t *, uint64_t);
     uint64_t (*links)(uint8_t *, uint64_t, const uint8_t *, uint64_t, const uint8_t *, uint64_t, uint8_t *, uint64_t, uint8_t *, uint64_t);
+    uint64_t (*run)(uint8_t *, uint64_t, const uint8_t *, uint64_t, const uint8_t *, uint64_t, uint8_t *, uint64_t, uint8_t *, uint64_t);
 };
 
 static uint64_t no_receive(uint8_t *t, uint64_t tn, const uint8_t *s, uint64_t sn, const uint8_t *f, uint64_t fn, uint8_t *o, uint64_t on,
@@ -33,8 +34,8 @@ static uint64_t no_pass(uint8_t *t, uint64_t tn, const uint8_t *s, uint64_t sn, 
 }
 
 /* Through a volatile pointer, so that no compiler sees which function it is. */
-static const struct functions library = { peer_receive_octets, peer_ask_octets, peer_pass_octets, peer_links_octets };
-static const struct functions nothing = { no_receive, no_ask, no_pass, no_receive };
+static const struct functions library = { peer_receive_octets, peer_ask_octets, peer_pass_octets, peer_links_octets, peer_run_octets };
+static const struct functions nothing = { no_receive, no_ask, no_pass, no_receive, no_receive };
 static const struct functions *volatile called;
 static size_t deepest;
 
@@ -51,6 +52,8 @@ static __attribute__((noinline)) uint64_t make(const struct replayed *c)
         return f->ask(table, tables, settings, sets, c->primitive, c->address, c->number, out, outs, answer, answers);
     if (c->kind == 3)
         return f->links(table, tables, settings, sets, frame, c->slices[2].octets, out, outs, answer, answers);
+    if (c->kind == CALL_RUN)
+        return f->run(table, tables, settings, sets, frame, c->slices[2].octets, out, outs, answer, answers);
     return f->pass(table, tables, settings, sets, c->number, out, outs, answer, answers);
 }
 

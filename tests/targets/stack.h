@@ -5,9 +5,12 @@
 #include <stddef.h>
 #include <stdint.h>
 
-/* What a call is given: slices in the order table, settings, frame or links named, out, answer. */
+/* Many events in one call, behind the four single ones. */
+enum { CALL_RUN = 4 };
+
+/* What a call is given: slices in the order table, settings, frame, links named or records, out, answers. */
 struct replayed {
-    uint8_t kind; /* 0 a frame, 1 a primitive, 2 a clock step, 3 links named */
+    uint8_t kind; /* 0 a frame, 1 a primitive, 2 a clock step, 3 links named, CALL_RUN */
     uint8_t primitive;
     uint16_t number;
     uint64_t address;

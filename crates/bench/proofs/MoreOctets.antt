@@ -1,90 +1,25 @@
 -- What stands at the front of the input, once it is there whole, stays what it is when more octets follow.
 -- Assumes nothing.
 use Prim.Native.Nat.{ℕ, _+_, _-_, _≤_}
-use mathlib.Core.Path.{_≡_, refl, sym, ap, _∙_}
-use mathlib.Core.Bool.{Bool, true, false, not, _&&_}
-use mathlib.Core.List.{List, [], _++_}
+use mathlib.Core.Path.{_≡_, refl, sym, _∙_, ap}
+use mathlib.Core.Bool.{Bool, true, false, _&&_, not}
+use mathlib.Core.List.{List, _++_}
 use native.Mathlib.Omega.{arith}
 use borrow.Author.Tests.{eqb-true, le-leb, le-ltb, leb-true, ltb-false, ltb-true}
 use lib.Dec.{ltb, leb, eqb}
-use lib.ListN.{length, take, drop, length-append, length-drop}
+use lib.ListN.{length, drop, length-append, length-drop}
 use lib.Seq.{take-append-le, drop-append-le}
-use Rattle.octets.proofs.Branch.{and-left, and-right, by-bool}
+use Rattle.octets.proofs.Branch.{and-left, and-right, by-bool, pick-both}
 use Rattle.octets.specs.Field.{field}
 use Rattle.octets.specs.Pick.{pick}
 use Rattle.peer.proofs.Fits.{clash}
+use Rattle.table.proofs.Octets.InputLaws.{Allowed, Lacks, Short, isCut, is-long, is-there, is-unmarked, whole-is}
+use Rattle.peer.specs.declared.settings.Settings.{Settings}
+use Rattle.table.specs.declared.rules.event.Event.{Event}
 use Rattle.table.specs.Boundary.{settingsIn, settingsLength}
-use Rattle.bench.specs.Input.{bodyOf, eventAt, lengthAllowed, marked, miscounted, sizeOf, takenOf}
-use Rattle.bench.specs.declared.input.Taken.{Taken}
-use Rattle.bench.specs.declared.input.Taken.the-variants.{Cut, Fault, First, Next}
-
--- whether it is not there whole; whether it is a record that is
-abbrev pub isCut : Taken → Bool
-isCut Cut = true
-isCut Fault = false
-isCut (First s) = false
-isCut (Next e) = false
-
-abbrev pub isRecord : Taken → Bool
-isRecord Cut = false
-isRecord Fault = false
-isRecord (First s) = true
-isRecord (Next e) = true
-
--- the four tests and the ends of `takenOf`
-module _ (xs : List ℕ) (first : Bool) where
-  abbrev Short : Bool
-  Short = ltb (length xs) 5
-
-  abbrev Allowed : Bool
-  Allowed = lengthAllowed first (field 1 2 xs) (field 2 3 xs)
-
-  abbrev Lacks : Bool
-  Lacks = ltb (length xs - 5) (field 2 3 xs)
-
-  pub is-short : Short ≡ true → takenOf xs first ≡ Cut
-  unfolding takenOf
-  is-short a = rw a
-
-  is-unmarked : Short ≡ false → marked xs ≡ false → takenOf xs first ≡ Fault
-  unfolding takenOf
-  is-unmarked a b = rw (a, b)
-
-  is-long : Short ≡ false → marked xs ≡ true → Allowed ≡ false → takenOf xs first ≡ Fault
-  unfolding takenOf
-  is-long a b c = rw (a, b, c)
-
-  is-lacking : Short ≡ false → marked xs ≡ true → Allowed ≡ true → Lacks ≡ true → takenOf xs first ≡ Cut
-  unfolding takenOf
-  is-lacking a b c d = rw (a, b, c, d)
-
-  is-there : Short ≡ false → marked xs ≡ true → Allowed ≡ true → Lacks ≡ false →
-      takenOf xs first ≡ pick first (First (settingsIn (bodyOf xs))) (pick (miscounted xs) Fault (Next (eventAt xs (field 1 2 xs))))
-  unfolding takenOf
-  is-there a b c d = rw (a, b, c, d)
-
-  -- What is whole has a wrong mark, or a wrong kind or length, or is there.
-  whole-is : {P : Type 0} → isCut (takenOf xs first) ≡ false →
-      (Short ≡ false → marked xs ≡ false → P) →
-      (Short ≡ false → marked xs ≡ true → Allowed ≡ false → P) →
-      (Short ≡ false → marked xs ≡ true → Allowed ≡ true → Lacks ≡ false → P) → P
-  whole-is w f g k =
-      by-bool Short (λ a. clash (rw (is-short a)) w)
-      (λ a. by-bool (marked xs)
-      (λ b. by-bool Allowed
-      (λ c. by-bool Lacks (λ d. clash (rw (is-lacking a b c d)) w) (λ d. k a b c d))
-      (λ c. g a b c))
-      (λ b. f a b))
-
-  -- a record that is taken is there whole
-  pub record-whole : isRecord (takenOf xs first) ≡ true → sizeOf xs ≤ length xs
-  record-whole w =
-      by-bool Short (λ a. clash w (rw (is-short a)))
-      (λ a. by-bool (marked xs)
-      (λ b. by-bool Allowed
-      (λ c. by-bool Lacks (λ d. clash w (rw (is-lacking a b c d))) (λ d. omega (arith, ltb-false (length xs) 5 a, ltb-false (length xs - 5) (field 2 3 xs) d)))
-      (λ c. clash w (rw (is-long a b c))))
-      (λ b. clash w (rw (is-unmarked a b))))
+use Rattle.table.specs.Input.{bodyOf, eventAt, lengthAllowed, marked, miscounted, sizeOf, takenOf}
+use Rattle.table.specs.declared.host.input.Taken.{Taken}
+use Rattle.table.specs.declared.host.input.Taken.the-variants.{Cut, Fault, First, Next}
 
 module _ (xs ys : List ℕ) where
   longer : (n : ℕ) → n ≤ length xs → ltb (length (xs ++ ys)) n ≡ false
@@ -167,6 +102,50 @@ module _ (xs ys : List ℕ) (first : Bool) where
 
       allowed : 5 ≤ length xs → Allowed (xs ++ ys) first ≡ Allowed xs first
       allowed l = rw (kind l, size l)
+
+-- ---- settings stand first, and only there
+
+abbrev isFirst : Taken → Bool
+isFirst Cut = false
+isFirst Fault = false
+isFirst (First s) = true
+isFirst (Next e) = false
+
+abbrev isNext : Taken → Bool
+isNext Cut = false
+isNext Fault = false
+isNext (First s) = false
+isNext (Next e) = true
+
+abbrev NotFirst : Taken → Type 0
+NotFirst t = isFirst t ≡ false
+
+abbrev NotNext : Taken → Type 0
+NotNext t = isNext t ≡ false
+
+not-first : (xs : List ℕ) → isFirst (takenOf xs false) ≡ false
+unfolding takenOf
+not-first xs =
+    pick-both NotFirst (ltb (length xs) 5) refl
+    (pick-both NotFirst (not (marked xs)) refl
+    (pick-both NotFirst (not (lengthAllowed false (field 1 2 xs) (field 2 3 xs))) refl
+    (pick-both NotFirst (ltb (length xs - 5) (field 2 3 xs)) refl (pick-both NotFirst (miscounted xs) refl refl))))
+
+not-next : (xs : List ℕ) → isNext (takenOf xs true) ≡ false
+unfolding takenOf
+not-next xs =
+    pick-both NotNext (ltb (length xs) 5) refl
+    (pick-both NotNext (not (marked xs)) refl
+    (pick-both NotNext (not (lengthAllowed true (field 1 2 xs) (field 2 3 xs))) refl
+    (pick-both NotNext (ltb (length xs - 5) (field 2 3 xs)) refl refl)))
+
+pub taken-first : (xs : List ℕ) (first : Bool) (s : Settings) → takenOf xs first ≡ First s → first ≡ true
+taken-first xs true s h = refl
+taken-first xs false s h = clash (ap isFirst h) (not-first xs)
+
+pub taken-next : (xs : List ℕ) (first : Bool) (e : Event) → takenOf xs first ≡ Next e → first ≡ false
+taken-next xs false e h = refl
+taken-next xs true e h = clash (ap isNext h) (not-next xs)
 
 -- ---- what is not there whole is short
 

@@ -4,14 +4,14 @@ use Prim.Native.Nat.{ℕ, zero, suc}
 use mathlib.Core.Path.{_≡_, refl, sym, ap, _∙_}
 use mathlib.Core.List.{List, [], _∷_, _++_, append-assoc}
 use Rattle.octets.specs.Pick.{pick}
-use Rattle.bench.specs.Input.{bodyOf, takenOf}
+use Rattle.table.specs.Input.{bodyOf, takenOf}
 use Rattle.bench.specs.Line.{stopLine}
 use Rattle.bench.specs.Output.{said}
 use Rattle.bench.specs.Play.{numberAfter}
 use Rattle.bench.specs.Plays.{linesOf, playsFrom, playsOf, stops, stopsFrom}
 use Rattle.bench.specs.Printed.{Shown, Standing, atStart, begunWith, behindFirst, outputOf, playedOn, printedFrom}
-use Rattle.bench.specs.declared.input.Taken.{Taken}
-use Rattle.bench.specs.declared.input.Taken.the-variants.{Cut, Fault, First, Next}
+use Rattle.table.specs.declared.host.input.Taken.{Taken}
+use Rattle.table.specs.declared.host.input.Taken.the-variants.{Cut, Fault, First, Next}
 
 module _ (w : Shown) where
   abbrev Same : List ℕ → ℕ → Standing → Type 0

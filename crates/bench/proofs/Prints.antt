@@ -15,14 +15,15 @@ use Rattle.octets.specs.Pick.{pick}
 use Rattle.peer.proofs.Fits.{clash}
 use Rattle.peer.specs.declared.settings.Settings.{Settings}
 use Rattle.table.specs.declared.rules.event.Event.{Event}
-use Rattle.bench.specs.Input.{bodyOf, sizeOf, takenOf}
+use Rattle.table.specs.Input.{bodyOf, sizeOf, takenOf}
 use Rattle.bench.specs.Line.{stopLine}
 use Rattle.bench.specs.Output.{said}
 use Rattle.bench.specs.Play.{numberAfter}
 use Rattle.bench.specs.Printed.{Shown, Standing, begunWith, behindFirst, playedOn, printedFrom}
-use Rattle.bench.specs.declared.input.Taken.{Taken}
-use Rattle.bench.specs.declared.input.Taken.the-variants.{Cut, Fault, First, Next}
-use Rattle.bench.proofs.MoreOctets.{body-more, field-more, is-short, isCut, later, record-whole}
+use Rattle.table.specs.declared.host.input.Taken.{Taken}
+use Rattle.table.specs.declared.host.input.Taken.the-variants.{Cut, Fault, First, Next}
+use Rattle.bench.proofs.MoreOctets.{body-more, field-more, later}
+use Rattle.table.proofs.Octets.InputLaws.{is-short, isCut, record-whole}
 
 module _ (w : Shown) where
   skip : (xs : List ℕ) (k : ℕ) (s : Standing) → k ≤ length xs → printedFrom w k s xs ≡ printedFrom w 0 s (drop k xs)

@@ -8,11 +8,11 @@ use native.Mathlib.Omega.{arith}
 use lib.ListN.{length, replicate}
 use borrow.Author.Tests.{leb-true}
 use Rattle.peer.proofs.Fits.{clash}
-use Rattle.bench.specs.Input.{takenOf}
+use Rattle.table.specs.Input.{takenOf}
 use Rattle.bench.specs.Rounds.{Ran, ahead, came, start, taken, went}
 use Rattle.bench.specs.Run.{doneOf, flushedOf, startOf}
 use Rattle.bench.specs.Turn.{Flushed, Refilled, Rounded, TurnOf, Turned, failed, more, on, out, took, unwritten, wanted, written}
-use Rattle.bench.specs.declared.input.Taken.the-variants.{Cut}
+use Rattle.table.specs.declared.host.input.Taken.the-variants.{Cut}
 use Rattle.bench.specs.declared.run.Prints.{Prints}
 use Rattle.bench.specs.declared.run.Run.{Run}
 use Rattle.bench.proofs.Whole.{kept}

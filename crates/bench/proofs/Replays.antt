@@ -15,10 +15,10 @@ use Rattle.table.specs.declared.rules.event.Event.{Event}
 use Rattle.table.specs.declared.rules.event.Event.the-variants.{Frame, Clock as Tick}
 use Rattle.bench.specs.Capture.{Packet, keptOf, bigOf, numbered, linked, walkFrom}
 use Rattle.bench.specs.Import.{Item, Imported, step, frame, headOf, recordOf, writtenOf, fullSteps, restOf, stepsThen, movedOf, dueOf, paidOf, itemsFrom, walkedOf, fileOf, importedOf, unstarted, none, isFirst, oneSettings}
-use Rattle.bench.specs.Input.{marked, lengthAllowed, miscounted, eventAt, sizeOf, bodyOf, takenOf}
+use Rattle.table.specs.Input.{marked, lengthAllowed, miscounted, eventAt, sizeOf, bodyOf, takenOf}
 use Rattle.bench.specs.declared.passed.Clock.{Clock}
 use Rattle.bench.specs.declared.passed.Counts.{Counts}
-use Rattle.bench.specs.declared.input.Taken.the-variants.{Next}
+use Rattle.table.specs.declared.host.input.Taken.the-variants.{Next}
 use Rattle.bench.proofs.Fronts.{kept-short}
 use Rattle.bench.proofs.Packets.{field-more}
 

@@ -13,7 +13,7 @@ use Rattle.table.specs.Fit.{aloneIn, sparseOf, wellFormed}
 use Rattle.table.specs.Pass.{passedOf}
 use Rattle.table.specs.Places.{allTails, linkAddressesOf}
 use Rattle.table.specs.Refusals.{firstOf}
-use Rattle.bench.specs.Input.{bodyOf, eventAt, lengthAllowed, marked, miscounted, takenOf}
+use Rattle.table.specs.Input.{bodyOf, eventAt, lengthAllowed, marked, miscounted, takenOf}
 use Rattle.bench.specs.Line.{backOf, dsLetter, frontOf, lineOf, stopLine, verdictLetter}
 use Rattle.bench.specs.Output.{said}
 use Rattle.bench.specs.Play.{numberAfter}

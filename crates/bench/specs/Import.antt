@@ -8,11 +8,11 @@ use lib.Dec.{ltb, eqb}
 use lib.ListN.{length, drop}
 use Rattle.octets.specs.Pick.{pick}
 use Rattle.octets.specs.Field.{octets}
-use Rattle.bench.specs.Input.{sizeOf, takenOf}
+use Rattle.table.specs.Input.{sizeOf, takenOf}
 use Rattle.bench.specs.Play.{numberAfter}
 use Rattle.bench.specs.Capture.{Packet, Walk, bigOf, numbered, linked, keptOf, walkFrom}
-use Rattle.bench.specs.declared.input.Taken.{Taken}
-use Rattle.bench.specs.declared.input.Taken.the-variants.{Cut, Fault, First, Next}
+use Rattle.table.specs.declared.host.input.Taken.{Taken}
+use Rattle.table.specs.declared.host.input.Taken.the-variants.{Cut, Fault, First, Next}
 use Rattle.bench.specs.declared.passed.Clock.{Clock}
 use Rattle.bench.specs.declared.passed.Counts.{Counts}
 

@@ -2,7 +2,6 @@ pub mod Text
 pub mod Why
 pub mod Output
 pub mod Line
-pub mod Input
 pub mod Play
 pub mod Trace
 pub mod Printed

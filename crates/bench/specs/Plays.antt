@@ -9,7 +9,7 @@ use Rattle.peer.specs.declared.settings.Settings.{Settings}
 use Rattle.table.specs.Step.{stepOf}
 use Rattle.table.specs.declared.rules.answer.Answer.{Answer}
 use Rattle.table.specs.declared.rules.event.Event.{Event}
-use Rattle.bench.specs.Input.{bodyOf, takenOf}
+use Rattle.table.specs.Input.{bodyOf, takenOf}
 use Rattle.bench.specs.Output.{said}
 use Rattle.bench.specs.Play.{numberAfter}
 use Rattle.bench.specs.Printed.{Shown, Standing, atStart, begunWith, behindFirst, onTaken, playedOn}

@@ -14,14 +14,14 @@ use Rattle.table.specs.Boundary.{noSettings}
 use Rattle.table.specs.Step.{stepOf, stepIn}
 use Rattle.table.specs.Why.{whyOf}
 use Rattle.table.specs.declared.rules.event.Event.{Event}
-use Rattle.bench.specs.Input.{bodyOf, takenOf}
+use Rattle.table.specs.Input.{bodyOf, takenOf}
 use Rattle.bench.specs.Line.{lineOf, stopLine}
 use Rattle.bench.specs.Output.{Line, short, said}
 use Rattle.bench.specs.Play.{zeros, numberAfter}
 use Rattle.bench.specs.Trace.{traceLines}
 use Rattle.bench.specs.Why.{whyLine}
-use Rattle.bench.specs.declared.input.Taken.{Taken}
-use Rattle.bench.specs.declared.input.Taken.the-variants.{Cut, Fault, First, Next}
+use Rattle.table.specs.declared.host.input.Taken.{Taken}
+use Rattle.table.specs.declared.host.input.Taken.the-variants.{Cut, Fault, First, Next}
 use Rattle.bench.specs.declared.run.Prints.the-variants as prints
 use Rattle.bench.specs.declared.run.Prints.{Prints}
 

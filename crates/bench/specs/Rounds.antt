@@ -6,10 +6,10 @@ use mathlib.Core.Bool.{Bool, true, false}
 use mathlib.Core.List.{List, [], _++_}
 use mathlib.Core.Path.{_≡_}
 use lib.ListN.{length, replicate, take}
-use Rattle.bench.specs.Input.{takenOf}
+use Rattle.table.specs.Input.{takenOf}
 use Rattle.bench.specs.Run.{aheadOf, flushedOf, leftOf, shiftedOf, startOf}
 use Rattle.bench.specs.Turn.{Took, refilledOf}
-use Rattle.bench.specs.declared.input.Taken.the-variants.{Cut}
+use Rattle.table.specs.declared.host.input.Taken.the-variants.{Cut}
 use Rattle.bench.specs.declared.run.Prints.{Prints}
 use Rattle.bench.specs.declared.run.Run.{Run}
 

@@ -7,12 +7,13 @@ use mathlib.Core.Path.{_≡_}
 use lib.Dec.{eqb, leb}
 use lib.ListN.{length, getD, take}
 use Rattle.table.specs.Host.{hostTable}
-use Rattle.table.specs.Rows.{isTable, recordsOf}
-use Rattle.bench.specs.Input.{sizeOf, bodyOf, takenOf}
+use Rattle.table.specs.Rows.{recordsOf}
+use Rattle.table.specs.Run.{Sound}
+use Rattle.table.specs.Input.{sizeOf, bodyOf, takenOf}
 use Rattle.bench.specs.Play.{zeros}
 use Rattle.bench.specs.Run.{behindOf, begunOf, doneOf, endOutput, eventOf, eventOutput, flushedOf, stopOutput, aheadOf, leftOf, shiftedOf}
-use Rattle.bench.specs.declared.input.Taken.{Taken}
-use Rattle.bench.specs.declared.input.Taken.the-variants.{Cut, Fault, First, Next}
+use Rattle.table.specs.declared.host.input.Taken.{Taken}
+use Rattle.table.specs.declared.host.input.Taken.the-variants.{Cut, Fault, First, Next}
 use Rattle.bench.specs.declared.run.Run.{Run}
 
 -- Each is an octet.
@@ -40,15 +41,18 @@ pub data Refilled (xs : List ℕ) (r : Run) (ys : List ℕ) (q : Run) : Type 0 w
   more : (n : ℕ) → q ≡ refilledOf r (length xs) n → take (leftOf (r .at) (r .have) (length xs)) ys ≡ take (leftOf (r .at) (r .have) (length xs)) (shiftedOf (r .at) (r .have) xs) → Refilled xs r ys q
 
 -- What stands at the front of the octets ahead, taken: the table's octets ts, the output buffer o and the run r become us, k and q. Where no
--- record is there whole, at the end of the input, "a cut record" is a fault, and no octet left there is the input's end. Of an event its own octets
--- and the table's are octets, as those of every slice are.
+-- record is there whole, at the end of the input, "a cut record" is a fault, and no octet left there is the input's end. An event is played without
+-- a check of the table, which is `Sound` (table/specs/Run.antt) from the empty one on; its own octets and the table's are octets, as those of every
+-- slice are.
 abbrev pub Took : Taken → List ℕ → List ℕ → List ℕ → Run → List ℕ → List ℕ → Run → Type 0
 Took Cut ahead ts o r us k q = (us ≡ ts) × (r .over ≡ true) × (q ≡ doneOf r (endOutput r o .filled)) × (k ≡ endOutput r o .octets)
 Took Fault ahead ts o r us k q = (us ≡ ts) × (q ≡ doneOf r (stopOutput r o .filled)) × (k ≡ stopOutput r o .octets)
 Took (First s) ahead ts o r us k q = (us ≡ ts) × (q ≡ begunOf r s (sizeOf ahead)) × (k ≡ o)
 Took (Next e) ahead ts o r us k q =
+    (Sound (r .settings) ts →
     (us ≡ hostTable ts (r .settings) e (bodyOf ahead) zeros) ×
-    (isTable ts ≡ true → (q ≡ eventOf r (recordsOf ts) e (bodyOf ahead) (sizeOf ahead) o) × (k ≡ eventOutput r (recordsOf ts) e (bodyOf ahead) o .octets)) ×
+    (q ≡ eventOf r (recordsOf ts) e (bodyOf ahead) (sizeOf ahead) o) ×
+    (k ≡ eventOutput r (recordsOf ts) e (bodyOf ahead) o .octets)) ×
     Made ts ×
     Made (bodyOf ahead)
 

@@ -6,11 +6,14 @@ use table::host::calls::pass;
 use table::host::calls::receive;
 use table::host::link::link;
 use table::host::rows::look;
+use table::host::run::known_call;
+use table::host::run::trusted;
 use table::rules::answer::Answer;
 use table::rules::event::Event;
 ghost use mathlib.Core.Path.{_≡_};
 ghost use Rattle.table.specs.Host.{hostAnswer, hostTable, hostIn};
 ghost use Rattle.table.specs.Rows.{recordsOf};
+ghost use Rattle.table.specs.Run.{Sound};
 ghost use Rattle.bench.specs.Play.{zeros};
 
 // One event.
@@ -35,6 +38,15 @@ pub fn play(table: &mut [u8], s: Settings, e: Event, frame: &[u8]) -> Answer
 {
     let mut scratch = [0u8; 256];
     play_in(table, s, e, frame, &mut scratch)
+}
+
+// The same without the check, on a table that is well formed if the settings fit.
+pub fn play_on(table: &mut [u8], s: Settings, e: Event, frame: &[u8]) -> Answer
+    ensures { λ r. ⌜ (Sound s (now (table .entry)) → (r ≡ hostAnswer (now (table .entry)) s e (now (frame .entry)) zeros) × (now (table .exit) ≡ hostTable (now (table .entry)) s e (now (frame .entry)) zeros)) ⌝ }
+{
+    let mut scratch = [0u8; 256];
+    let k = trusted(s, &*table);
+    known_call(table, s, k, e, frame, &mut scratch)
 }
 
 // The records of a table.

@@ -1,9 +1,5 @@
 // The run over an input: the octets read, what was taken of them, and the lines not yet written.
-use crate::input::Taken;
-use crate::input::body;
-use crate::input::record_length;
 use crate::input::shift;
-use crate::input::take;
 use crate::line::write_stop;
 use crate::text::has_room;
 use crate::ways::explained;
@@ -11,17 +7,22 @@ use crate::ways::plain;
 use crate::ways::traced_event;
 use libc::STDOUT_FILENO;
 use peer::settings::Settings;
+use table::host::input::Taken;
+use table::host::input::body;
+use table::host::input::record_length;
+use table::host::input::take;
 use table::rules::event::Event;
 ghost use mathlib.Core.Path.{_≡_};
 ghost use Prim.Native.Nat.{ℕ};
 ghost use mathlib.Core.Bool.{true};
 ghost use mathlib.Core.List.{List};
 ghost use Rattle.table.specs.Host.{hostTable};
-ghost use Rattle.table.specs.Rows.{isTable, recordsOf};
+ghost use Rattle.table.specs.Rows.{recordsOf};
+ghost use Rattle.table.specs.Run.{Sound};
 ghost use Rattle.bench.specs.Play.{zeros, numberAfter};
 ghost use Rattle.bench.specs.Run.{startOf, behindOf, begunOf, doneOf, eventOf, eventOutput, stopOutput};
 ghost use Rattle.bench.specs.Turn.{Flushed, Made, Refilled, Rounded, Turned, TurnOf};
-ghost use Rattle.bench.specs.declared.input.Taken.the-variants.{Cut};
+ghost use Rattle.table.specs.declared.host.input.Taken.the-variants.{Cut};
 
 // What is printed of an event.
 pub enum Prints {
@@ -174,7 +175,7 @@ fn counted(n: u64) -> u64
 
 // An event was taken: it is played, and its lines go to the output. The record has `size` octets, its body is `frame`.
 fn event(table: &mut [u8], output: &mut [u8], r: Run, e: Event, frame: &[u8], size: usize) -> Run
-    ensures { λ q. ⌜ (now (table .exit) ≡ hostTable (now (table .entry)) (r .settings) e (now (frame .entry)) zeros) × (isTable (now (table .entry)) ≡ true → (q ≡ eventOf r (recordsOf (now (table .entry))) e (now (frame .entry)) size (now (output .entry))) × (now (output .exit) ≡ eventOutput r (recordsOf (now (table .entry))) e (now (frame .entry)) (now (output .entry)) .octets)) × (Made (now (table .entry))) × (Made (now (frame .entry))) ⌝ }
+    ensures { λ q. ⌜ (Sound (r .settings) (now (table .entry)) → (now (table .exit) ≡ hostTable (now (table .entry)) (r .settings) e (now (frame .entry)) zeros) × (q ≡ eventOf r (recordsOf (now (table .entry))) e (now (frame .entry)) size (now (output .entry))) × (now (output .exit) ≡ eventOutput r (recordsOf (now (table .entry))) e (now (frame .entry)) (now (output .entry)) .octets)) × (Made (now (table .entry))) × (Made (now (frame .entry))) ⌝ }
 {
     let number = counted(r.number);
     let mut next = r;

@@ -2,6 +2,7 @@
 use crate::lent::lent_play;
 use crate::line::write_line;
 use crate::rows::play;
+use crate::rows::play_on;
 use crate::rows::records_in;
 use crate::run::Run;
 use crate::show::traced;
@@ -11,6 +12,7 @@ use table::rules::event::Event;
 ghost use mathlib.Core.Path.{_≡_};
 ghost use Rattle.table.specs.Host.{hostAnswer, hostTable};
 ghost use Rattle.table.specs.Rows.{recordsOf};
+ghost use Rattle.table.specs.Run.{Sound};
 ghost use Rattle.table.specs.Why.{whyOf};
 ghost use Rattle.bench.specs.Line.{lineOf};
 ghost use Rattle.bench.specs.Output.{putAll, putOf, short, upTo};
@@ -19,7 +21,7 @@ ghost use Rattle.bench.specs.Run.{playedOf, scratchOf};
 ghost use Rattle.bench.specs.Trace.{traceLines};
 ghost use Rattle.bench.specs.Why.{whyLine};
 
-// The line of an event.
+// The line of an event, played without the check.
 pub(crate) fn plain(
     table: &mut [u8],
     output: &mut [u8],
@@ -28,9 +30,9 @@ pub(crate) fn plain(
     e: Event,
     frame: &[u8],
 ) -> usize
-    ensures { λ n. ⌜ (now (table .exit) ≡ hostTable (now (table .entry)) (r .settings) e (now (frame .entry)) zeros) × (upTo (now (output .exit)) n ≡ putOf (short (lineOf number (hostAnswer (now (table .entry)) (r .settings) e (now (frame .entry)) zeros))) (upTo (now (output .entry)) (r .out))) ⌝ }
+    ensures { λ n. ⌜ (Sound (r .settings) (now (table .entry)) → (now (table .exit) ≡ hostTable (now (table .entry)) (r .settings) e (now (frame .entry)) zeros) × (upTo (now (output .exit)) n ≡ putOf (short (lineOf number (hostAnswer (now (table .entry)) (r .settings) e (now (frame .entry)) zeros))) (upTo (now (output .entry)) (r .out)))) ⌝ }
 {
-    let answer = play(table, r.settings, e, frame);
+    let answer = play_on(table, r.settings, e, frame);
     write_line(output, r.out, number, answer)
 }
 

@@ -7,10 +7,13 @@ pub mod QueryStandings
 pub mod LinkStandings
 pub mod Surveys
 pub mod LinkSurveys
+pub mod InputLaws
 pub mod HostLaws
+pub mod RuledLaws
 pub mod BoundaryLaws
 pub mod WhyLaws
 pub mod CallsInRow
+pub mod RunLaws
 pub mod JoinedCalls
 pub mod JoinedCallsExamples
 pub mod OrderOctets

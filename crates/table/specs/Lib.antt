@@ -12,9 +12,12 @@ pub mod Link
 pub mod Pass
 pub mod Step
 pub mod Lent
+pub mod Ruled
 pub mod Rows
 pub mod Host
 pub mod Boundary
+pub mod Input
+pub mod Run
 pub mod Why
 pub mod Case
 pub mod Marked

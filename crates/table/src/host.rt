@@ -2,9 +2,12 @@
 pub mod apart;
 pub mod boundary;
 pub mod calls;
+pub mod input;
 pub mod link;
+pub mod play;
 pub mod reasons;
 pub mod rows;
+pub mod run;
 pub mod seek;
 pub mod settings;
 pub mod standing;

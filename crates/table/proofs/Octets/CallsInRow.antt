@@ -51,7 +51,7 @@ early true rest w h = let z : _≡_ {A = ℕ} 1 0 = h in omega arith
 early false rest w h = let z : _≡_ {A = ℕ} 2 0 = rw w at h in omega arith
 
 -- settings or table that are not well formed are refused, whatever the event
-ill-refused : (s : Settings) (t : List Record) (e : Event) (fs : List ℕ) (n : ℕ) → wellFormed s t ≡ false → stepOf s t e fs n .answer .refusal ≡ 0 → ⊥
+pub ill-refused : (s : Settings) (t : List Record) (e : Event) (fs : List ℕ) (n : ℕ) → wellFormed s t ≡ false → stepOf s t e fs n .answer .refusal ≡ 0 → ⊥
 ill-refused s t e fs n w h = no e (sym (refusal-first s t e fs n) ∙ h)
   where
     no : (e : Event) → firstOf (refusalsOf s t e fs n) ≡ 0 → ⊥

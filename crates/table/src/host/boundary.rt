@@ -4,16 +4,18 @@ use crate::host::calls::ask;
 use crate::host::calls::pass;
 use crate::host::calls::receive;
 use crate::host::link::link;
+use crate::host::run::run;
 use crate::host::settings::settings_in;
 use crate::rules::answer::Answer;
 use octets::answer::write_answer;
 ghost use mathlib.Core.Path.{_≡_};
 ghost use mathlib.Core.List.{[]};
-ghost use Rattle.table.specs.Boundary.{answerIn, crossed, crossedOf};
+ghost use Rattle.table.specs.Boundary.{answerIn, crossed, crossedOf, settingsIn};
+ghost use Rattle.table.specs.Run.{ranOf};
 ghost use Rattle.table.specs.declared.rules.event.Event.the-variants as event;
 
 // Writes the answer into the octets lent for it, and gives the refusal's number.
-fn told(a: Answer, answer: &mut [u8]) -> u64
+pub(crate) fn told(a: Answer, answer: &mut [u8]) -> u64
     ensures { λ r. ⌜ (r ≡ a .refusal) × (now (answer .exit) ≡ answerIn a (now (answer .entry))) ⌝ }
 {
     write_answer(
@@ -102,4 +104,19 @@ pub extern "C" fn peer_pass_octets(
     }
     let a = pass(table, settings_in(settings), step, out);
     told(a, answer)
+}
+
+// Many events: records of a bench input, one behind the other. 24 octets for each answer; what each event writes stands in `out` behind what the
+// one before wrote. The result is how many were played.
+#[no_mangle]
+pub extern "C" fn peer_run_octets(
+    table: &mut [u8],
+    settings: &[u8],
+    records: &[u8],
+    out: &mut [u8],
+    answers: &mut [u8],
+) -> u64
+    ensures { λ r. ⌜ crossed r (now (table .exit)) (now (out .exit)) (now (answers .exit)) ≡ ranOf (now (table .entry)) (settingsIn (now (settings .entry))) (now (records .entry)) (now (out .entry)) (now (answers .entry)) ⌝ }
+{
+    run(table, settings_in(settings), records, out, answers)
 }

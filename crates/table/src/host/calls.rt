@@ -1,7 +1,7 @@
 // The calls over a table of 1536 octets, as a host lends it; settings and answer by value.
-use crate::host::rows::clock;
+use crate::host::play::play;
+use crate::host::play::room;
 use crate::host::rows::find;
-use crate::host::rows::met;
 use crate::host::rows::peer_at;
 use crate::host::rows::vacancy;
 use crate::host::seek::find_link;
@@ -12,18 +12,14 @@ use crate::host::survey::survey;
 use crate::rules::answer::Answer;
 use crate::rules::ask::asked_at;
 use crate::rules::common::quiet;
-use crate::rules::others::others;
+use crate::rules::event::Event;
 use crate::rules::read::Reading;
-use crate::rules::read::read;
 use crate::rules::receive::heard_from;
 use crate::rules::seat::Change;
-use crate::rules::seat::answered;
 use crate::rules::seat::refused;
 use crate::rules::seat::settled;
-use octets::frame::Frame;
 use peer::refuse::Others;
 use peer::settings::Settings;
-use peer::settings::associates;
 use peer::turn::Turn;
 ghost use mathlib.Core.Path.{_≡_};
 ghost use mathlib.Core.List.{[]};
@@ -38,7 +34,7 @@ ghost use Rattle.table.specs.Seat.{metOf};
 ghost use Rattle.table.specs.declared.rules.event.Event.the-variants as event;
 
 // A frame that was read.
-fn heard_at(s: Settings, table: &[u8], linked: bool, r: Reading) -> Change
+pub(crate) fn heard_at(s: Settings, table: &[u8], linked: bool, r: Reading) -> Change
     requires { ⌜ length (now table) ≡ 1536 ⌝ }
     ensures { λ c. ⌜ (linked ≡ linkedIn (recordsOf (now (table .entry))) → metOf (recordsOf (now (table .entry))) c ≡ heardAt s (recordsOf (now (table .entry))) (addressesOf (recordsOf (now (table .entry)))) r) ⌝ }
 {
@@ -73,7 +69,7 @@ fn heard_at(s: Settings, table: &[u8], linked: bool, r: Reading) -> Change
 }
 
 // A primitive, by what it asks of the whole table.
-fn asked_in(
+pub(crate) fn asked_in(
     s: Settings,
     table: &[u8],
     linked: bool,
@@ -99,11 +95,11 @@ fn asked_in(
     )
 }
 
-// A received frame.
-pub fn receive(table: &mut [u8], s: Settings, frame: &[u8], out: &mut [u8]) -> Answer
-    ensures { λ r. ⌜ (r ≡ hostAnswer (now (table .entry)) s event.Frame (now (frame .entry)) (now (out .entry))) × (now (table .exit) ≡ hostTable (now (table .entry)) s event.Frame (now (frame .entry)) (now (out .entry))) × (now (out .exit) ≡ hostIn (now (table .entry)) s event.Frame (now (frame .entry)) (now (out .entry))) ⌝ }
+// An event, with every refusal: what the single calls are. Settings and table are checked, then it is played.
+pub fn call(table: &mut [u8], s: Settings, e: Event, octets: &[u8], out: &mut [u8]) -> Answer
+    ensures { λ r. ⌜ (r ≡ hostAnswer (now (table .entry)) s e (now (octets .entry)) (now (out .entry))) × (now (table .exit) ≡ hostTable (now (table .entry)) s e (now (octets .entry)) (now (out .entry))) × (now (out .exit) ≡ hostIn (now (table .entry)) s e (now (octets .entry)) (now (out .entry))) ⌝ }
 {
-    if out.len() < Frame::LONGEST {
+    if out.len() < room(e) {
         return Answer::refusal(1);
     }
     if table.len() != 1536 {
@@ -113,11 +109,14 @@ pub fn receive(table: &mut [u8], s: Settings, frame: &[u8], out: &mut [u8]) -> A
     if v.well {} else {
         return Answer::refusal(2);
     }
-    let c = heard_at(s, &*table, v.linked, read(s.own, associates(s.role), frame));
-    met(table, c, false);
-    let answer = c.answer;
-    let reply = c.reply;
-    answered(answer, reply, out)
+    play(table, s, v.linked, e, octets, out)
+}
+
+// A received frame.
+pub fn receive(table: &mut [u8], s: Settings, frame: &[u8], out: &mut [u8]) -> Answer
+    ensures { λ r. ⌜ (r ≡ hostAnswer (now (table .entry)) s event.Frame (now (frame .entry)) (now (out .entry))) × (now (table .exit) ≡ hostTable (now (table .entry)) s event.Frame (now (frame .entry)) (now (out .entry))) × (now (out .exit) ≡ hostIn (now (table .entry)) s event.Frame (now (frame .entry)) (now (out .entry))) ⌝ }
+{
+    call(table, s, Event::Frame, frame, out)
 }
 
 // A primitive from our own side.
@@ -131,41 +130,17 @@ pub fn ask(
 ) -> Answer
     ensures { λ r. ⌜ (r ≡ hostAnswer (now (table .entry)) s (event.Ask primitive address code) [] (now (out .entry))) × (now (table .exit) ≡ hostTable (now (table .entry)) s (event.Ask primitive address code) [] (now (out .entry))) × (now (out .exit) ≡ hostIn (now (table .entry)) s (event.Ask primitive address code) [] (now (out .entry))) ⌝ }
 {
-    if out.len() < Frame::LONGEST {
-        return Answer::refusal(1);
-    }
-    if table.len() != 1536 {
-        return Answer::refusal(2);
-    }
-    let v = survey(s, &*table);
-    if v.well {} else {
-        return Answer::refusal(2);
-    }
-    let o = others(s, v.associated, v.crowd);
-    let c = asked_in(s, &*table, v.linked, o, primitive, address, code);
-    met(table, c, false);
-    let answer = c.answer;
-    let reply = c.reply;
-    answered(answer, reply, out)
+    let e = Event::Ask {
+        primitive,
+        address,
+        code,
+    };
+    call(table, s, e, b"", out)
 }
 
 // A clock step in TU.
 pub fn pass(table: &mut [u8], s: Settings, step: u16, out: &mut [u8]) -> Answer
     ensures { λ r. ⌜ (r ≡ hostAnswer (now (table .entry)) s (event.Clock step) [] (now (out .entry))) × (now (table .exit) ≡ hostTable (now (table .entry)) s (event.Clock step) [] (now (out .entry))) × (now (out .exit) ≡ hostIn (now (table .entry)) s (event.Clock step) [] (now (out .entry))) ⌝ }
 {
-    if out.len() < 256 {
-        return Answer::refusal(1);
-    }
-    if table.len() != 1536 {
-        return Answer::refusal(2);
-    }
-    let v = survey(s, &*table);
-    if v.well {} else {
-        return Answer::refusal(2);
-    }
-    if step == 0 {
-        return Answer::refusal(3);
-    }
-    let written = clock(s, table, step, out);
-    Answer::refusal(0).count(written)
+    call(table, s, Event::Clock(step), b"", out)
 }

@@ -1,11 +1,11 @@
 // The links of a device named, over a table of 1536 octets as a host lends it.
+use crate::host::calls::call;
 use crate::host::rows::find;
-use crate::host::rows::met;
 use crate::host::rows::peer_at;
 use crate::host::rows::vacancy;
 use crate::host::seek::find_link;
-use crate::host::survey::survey;
 use crate::rules::answer::Answer;
+use crate::rules::event::Event;
 use crate::rules::link::count_in;
 use crate::rules::link::device_in;
 use crate::rules::link::link_allowed;
@@ -14,8 +14,6 @@ use crate::rules::link::links_in;
 use crate::rules::link::may_name;
 use crate::rules::seat::Change;
 use crate::rules::seat::Found;
-use crate::rules::seat::answered;
-use octets::frame::Frame;
 use octets::links::Links;
 use peer::settings::Settings;
 ghost use mathlib.Core.Path.{_≡_};
@@ -67,7 +65,7 @@ pub(crate) fn may_link(s: Settings, table: &[u8], linked: bool, at: Found, named
     links_allowed(s, table, linked, at, links_in(named), count as usize)
 }
 
-fn named_at(s: Settings, table: &[u8], linked: bool, named: &[u8]) -> Change
+pub(crate) fn named_at(s: Settings, table: &[u8], linked: bool, named: &[u8]) -> Change
     requires { ⌜ length (now table) ≡ 1536 ⌝ }
     ensures { λ c. ⌜ (linked ≡ linkedIn (recordsOf (now (table .entry))) → metOf (recordsOf (now (table .entry))) c ≡ linkedAt s (recordsOf (now (table .entry))) (addressesOf (recordsOf (now (table .entry)))) (now (named .entry))) ⌝ }
 {
@@ -88,19 +86,5 @@ fn named_at(s: Settings, table: &[u8], linked: bool, named: &[u8]) -> Change
 pub fn link(table: &mut [u8], s: Settings, named: &[u8], out: &mut [u8]) -> Answer
     ensures { λ r. ⌜ (r ≡ hostAnswer (now (table .entry)) s event.Links (now (named .entry)) (now (out .entry))) × (now (table .exit) ≡ hostTable (now (table .entry)) s event.Links (now (named .entry)) (now (out .entry))) × (now (out .exit) ≡ hostIn (now (table .entry)) s event.Links (now (named .entry)) (now (out .entry))) ⌝ }
 {
-    if out.len() < Frame::LONGEST {
-        return Answer::refusal(1);
-    }
-    if table.len() != 1536 {
-        return Answer::refusal(2);
-    }
-    let v = survey(s, &*table);
-    if v.well {} else {
-        return Answer::refusal(2);
-    }
-    let c = named_at(s, &*table, v.linked, named);
-    met(table, c, true);
-    let answer = c.answer;
-    let reply = c.reply;
-    answered(answer, reply, out)
+    call(table, s, Event::Links, named, out)
 }

@@ -147,6 +147,16 @@ fn any_linked(table: &[u8], n: usize) -> bool
     true
 }
 
+// Whether any record has links.
+pub(crate) fn linked_now(table: &[u8]) -> bool
+    ensures { λ r. ⌜ (length (now (table .entry)) ≡ 1536 → r ≡ linkedIn (recordsOf (now (table .entry)))) ⌝ }
+{
+    if table.len() != 1536 {
+        return false;
+    }
+    any_linked(table, used(table))
+}
+
 // Whether the place before one is a row of which no more is to be asked: a plain one, and no row behind it has its mark.
 fn clear(s: Settings, table: &[u8], i: usize, marks: &[bool]) -> bool
     requires { ⌜ (settingsFit s ≡ true) × (i ≤ 32) × (length (now marks) ≡ 256) ⌝ }

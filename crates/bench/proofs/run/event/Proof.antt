@@ -45,11 +45,11 @@ returns c =
     let a = c .before .before .before .before .before .before .before .before .before .before .before .before .before .before .args in
     let ts = now (a .table) in
     let n = c .before .before .before .before .before .before .before .before .before .before .counted .ensures in (
-      c .before .before .before .before .plain .ensures .0,
       λ i.
+          let p = c .before .before .before .before .plain .ensures i in
           let h : upTo (c .before .before .before .before .plain .last .1 .0) (c .before .before .before .before .plain .result) ≡ eventOutput (a .r) (recordsOf ts) (a .e) (now (a .frame)) (now (a .output)) =
-          plain-output (a .r) ts (a .e) (now (a .frame)) (now (a .output)) _ n _ i (c .before .before .before .before .before .before .before .enum-told .given .1) (c .before .before .before .before .plain .ensures .1) in
-          (event-run (a .r) (recordsOf ts) (a .e) (now (a .frame)) (now (a .output)) (a .size) _ _ _ _ n (c .before .before .before .before .before .before .before .before .before .behind .ensures) h, ap (λ (o : Output). o .octets) h),
+          plain-output (a .r) ts (a .e) (now (a .frame)) (now (a .output)) _ n _ (i .table) (c .before .before .before .before .before .before .before .enum-told .given .1) (p .1) in
+          (p .0, event-run (a .r) (recordsOf ts) (a .e) (now (a .frame)) (now (a .output)) (a .size) _ _ _ _ n (c .before .before .before .before .before .before .before .before .before .behind .ensures) h, ap (λ (o : Output). o .octets) h),
       λ k. c .before .before .before .before .before .before .before .before .before .before .before .before .before .slice-known .given k .fits,
       λ k. c .before .before .before .before .before .before .before .before .before .before .before .shared-slice-known .given k .fits,
     )
@@ -65,11 +65,10 @@ returns-2 c =
     let a = c .before .before .before .before .before .before .before .before .before .before .before .before .before .before .args in
     let ts = now (a .table) in
     let n = c .before .before .before .before .before .before .before .before .before .before .counted .ensures in (
-      c .before .before .before .before .traced-event .ensures .0,
       λ i.
           let h : upTo (c .before .before .before .before .traced-event .last .1 .0) (c .before .before .before .before .traced-event .result) ≡ eventOutput (a .r) (recordsOf ts) (a .e) (now (a .frame)) (now (a .output)) =
           traced-output (a .r) ts (a .e) (now (a .frame)) (now (a .output)) _ n _ (c .before .before .before .before .before .before .before .enum-told2 .given .1) (c .before .before .before .before .traced-event .ensures .1) in
-          (event-run (a .r) (recordsOf ts) (a .e) (now (a .frame)) (now (a .output)) (a .size) _ _ _ _ n (c .before .before .before .before .before .before .before .before .before .behind .ensures) h, ap (λ (o : Output). o .octets) h),
+          (c .before .before .before .before .traced-event .ensures .0, event-run (a .r) (recordsOf ts) (a .e) (now (a .frame)) (now (a .output)) (a .size) _ _ _ _ n (c .before .before .before .before .before .before .before .before .before .behind .ensures) h, ap (λ (o : Output). o .octets) h),
       λ k. c .before .before .before .before .before .before .before .before .before .before .before .before .before .slice-known .given k .fits,
       λ k. c .before .before .before .before .before .before .before .before .before .before .before .shared-slice-known .given k .fits,
     )
@@ -85,11 +84,10 @@ returns-3 c =
     let a = c .before .before .before .before .before .before .before .before .before .before .before .before .before .before .args in
     let ts = now (a .table) in
     let n = c .before .before .before .before .before .before .before .before .before .before .counted .ensures in (
-      c .before .before .before .before .explained .ensures .0,
       λ i.
           let h : upTo (c .before .before .before .before .explained .last .1 .0) (c .before .before .before .before .explained .result) ≡ eventOutput (a .r) (recordsOf ts) (a .e) (now (a .frame)) (now (a .output)) =
           why-output (a .r) ts (a .e) (now (a .frame)) (now (a .output)) _ n _ (c .before .before .before .before .before .before .before .enum-told3 .given .1) (c .before .before .before .before .explained .ensures .1) in
-          (event-run (a .r) (recordsOf ts) (a .e) (now (a .frame)) (now (a .output)) (a .size) _ _ _ _ n (c .before .before .before .before .before .before .before .before .before .behind .ensures) h, ap (λ (o : Output). o .octets) h),
+          (c .before .before .before .before .explained .ensures .0, event-run (a .r) (recordsOf ts) (a .e) (now (a .frame)) (now (a .output)) (a .size) _ _ _ _ n (c .before .before .before .before .before .before .before .before .before .behind .ensures) h, ap (λ (o : Output). o .octets) h),
       λ k. c .before .before .before .before .before .before .before .before .before .before .before .before .before .slice-known .given k .fits,
       λ k. c .before .before .before .before .before .before .before .before .before .before .before .shared-slice-known .given k .fits,
     )

@@ -110,7 +110,7 @@ same-length-8 : tie.Need-same-length-8
 same-length-8 c = search needs
 
 returns-6 : tie.Need-returns-6
-returns-6 c = λ h g. rw (← c .before .before .before .before .before .before .before .before .before .before .before .before .before .before .take .ensures, c .before .before .before .before .before .before .before .before .before .before .before .before .t2 .given .1) (took (rw (← c .before .before .before .before .before .before .body .ensures, ← c .before .before .before .before .before .record-length2 .ensures) (c .before .before .before .before .event .ensures .0, c .before .before .before .before .event .ensures .1, c .before .before .before .before .event .ensures .2, c .before .before .before .before .event .ensures .3)) refl)
+returns-6 c = λ h g. rw (← c .before .before .before .before .before .before .before .before .before .before .before .before .before .before .take .ensures, c .before .before .before .before .before .before .before .before .before .before .before .before .t2 .given .1) (took (rw (← c .before .before .before .before .before .before .body .ensures, ← c .before .before .before .before .before .record-length2 .ensures) (c .before .before .before .before .event .ensures .0, c .before .before .before .before .event .ensures .1, c .before .before .before .before .event .ensures .2)) refl)
 
 pub turn-spec : {M : Type 1} → statement M
 turn-spec =

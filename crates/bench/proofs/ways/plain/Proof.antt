@@ -4,8 +4,8 @@ use borrow.Author.Needs.{needs}
 use Rattle.bench.proofs.ways.plain.Statement.{statement}
 use Rattle.bench.proofs.ways.plain.Tie as tie
 
-play-requires : tie.Need-play-requires
-play-requires c κs = search needs
+play-on-requires : tie.Need-play-on-requires
+play-on-requires c κs = search needs
 
 write-line-requires : tie.Need-write-line-requires
 write-line-requires c κs = search needs
@@ -17,8 +17,10 @@ same-length-2 : tie.Need-same-length-2
 same-length-2 c = search needs
 
 returns : tie.Need-returns
-returns c = (c .before .before .before .before .before .before .play .ensures .1, rw (← c .before .before .before .before .before .before .play .ensures .0) (c .before .before .write-line .ensures))
+returns c = λ h.
+    let p = c .before .before .before .before .before .before .play-on .ensures h in
+    (p .1, rw (← p .0) (c .before .before .write-line .ensures))
 
 pub plain-spec : {M : Type 1} → statement M
 plain-spec =
-    tie.close (tie.spec play-requires write-line-requires same-length same-length-2 returns)
+    tie.close (tie.spec play-on-requires write-line-requires same-length same-length-2 returns)

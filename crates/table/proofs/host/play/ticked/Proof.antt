@@ -1,0 +1,48 @@
+-- `table::host::play::ticked` meets its contract: each answer by the tests that led to it and what its callees ensure.
+-- Assumes nothing.
+use Rattle.table.specs.Ruled.{tickedIn, tickedOf}
+use borrow.Author.Needs.{needs}
+use borrow.Author.Tests.{eq-eqb, ne-eqb}
+use mathlib.Core.Path.{_∙_, refl, sym}
+use Rattle.table.proofs.Octets.RowLaws.{octets-of-records}
+use Rattle.table.proofs.host.play.ticked.Statement.{statement}
+use Rattle.table.proofs.host.play.ticked.Tie as tie
+
+refusal-requires : tie.Need-refusal-requires
+refusal-requires c κs = search needs
+
+returns : tie.Need-returns
+unfolding tickedOf tickedIn
+returns c = rw (eq-eqb _ _ (c .before .if1 .taken)) (c .refusal .ensures, (λ i. sym (octets-of-records _ (λ k. c .before .before .before .slice-known .given k .fits) i)), refl)
+
+clock-requires : tie.Need-clock-requires
+clock-requires c κs = search needs
+
+refusal-requires-2 : tie.Need-refusal-requires-2
+refusal-requires-2 c κs = search needs
+
+count-requires : tie.Need-count-requires
+count-requires c κs = search needs
+
+same-length : tie.Need-same-length
+same-length c = search needs
+
+same-length-2 : tie.Need-same-length-2
+same-length-2 c = search needs
+
+returns-2 : tie.Need-returns-2
+unfolding tickedOf tickedIn
+returns-2 c = rw (ne-eqb _ _ (c .before .before .before .before .before .before .before .before .before .if1 .left)) (c .count .ensures ∙ rw (c .before .refusal2 .ensures, c .before .before .before .before .before .before .clock .ensures .0), (λ i. c .before .before .before .before .before .before .clock .ensures .1), c .before .before .before .before .before .before .clock .ensures .2)
+
+pub ticked-spec : {M : Type 1} → statement M
+ticked-spec =
+    tie.close
+    (tie.spec
+    refusal-requires
+    returns
+    clock-requires
+    refusal-requires-2
+    count-requires
+    same-length
+    same-length-2
+    returns-2)
