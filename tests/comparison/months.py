@@ -103,13 +103,24 @@ def check_totals(command, dice, draws):
     return faults
 
 
+def check_refused(command):
+    """Lines that are of no block: one line on standard error, and nothing printed."""
+    faults = []
+    for line in ("", "what 3", "events", "events x", "events 1 2", "events 18446744073709551616", "events -1", "refusals 1 2 3",
+                 "refusals 1 2 3 4 5 6 7 8 9 10", "events  1", "eventss 1", "event 1", "Events 1"):
+        printed, errors = run(command + ["total"], f"{line}\n{block.shown(block.empty())}".encode())
+        if printed or len(errors) != 1:
+            faults.append(f"'{line}' is taken: {len(errors)} lines on standard error")
+    return faults
+
+
 def check_all(commands, names, blocks, stopped, given):
     """The faults of each program."""
     faults, whole = [], block.shown(block.joined(blocks))
     for command in commands:
         dice = Dice(given.seed)
         found = check_month(command, names, blocks, stopped) + check_parts(command, names, whole, dice)
-        found += check_totals(command, dice, given.totals)
+        found += check_totals(command, dice, given.totals) + check_refused(command)
         faults += [f"{command[0]}: {fault}" for fault in found if fault]
     return faults
 

@@ -5,9 +5,19 @@ With --check it names those that are otherwise.
 
 import sys
 
+from tools.month import blocks, picture
+
 from . import charts, crossing, forged, move_list, states, tablet
 
 FOLDER = move_list.LIST.parent
+# What `bench month` prints of the example's files, which the tests repeat.
+MONTH = FOLDER.parents[1] / "examples/month/lines"
+
+
+def month():
+    printed = MONTH.read_bytes()
+    names = [line[5:] for line in printed.decode().splitlines() if line.startswith("file ")]
+    return picture.draw(names, *blocks.read(printed, names))
 
 
 def pictures():
@@ -17,7 +27,7 @@ def pictures():
                 for name, role in move_list.ROLES.items()}
     canvases |= {"join": charts.join(), "comeback": charts.comeback(),
                  "forged_rejoin": forged.forged_rejoin(), "crossing": crossing.crossing(),
-                 "tablet": tablet.tablet()}
+                 "tablet": tablet.tablet(), "month": month()}
     for name, canvas in canvases.items():
         if canvas.faults():
             raise move_list.Fault(f"{name}: " + "; ".join(canvas.faults()))

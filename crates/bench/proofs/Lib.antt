@@ -10,7 +10,13 @@ pub mod Lines
 pub mod MoreOctets
 pub mod Moves
 pub mod Outputs
+pub mod Blocks
+pub mod Came
+pub mod Spelling
+pub mod BlockTrip
+pub mod Totalled
 pub mod Packets
+pub mod Counting
 pub mod Pending
 pub mod PendingExample
 pub mod PlaysPrinted
@@ -18,6 +24,9 @@ pub mod Prints
 pub mod Pieces
 pub mod Puts
 pub mod Reached
+pub mod MonthStream
+pub mod MonthCounts
+pub mod MonthExample
 pub mod Refills
 pub mod StepLengths
 pub mod RowReads

@@ -24,6 +24,7 @@ use Rattle.bench.specs.Trace.{currentLines, hasQuery, linksLine, linksLi
 use Rattle.bench.specs.declared.run.Prints.the-variants as prints
 use Rattle.bench.specs.declared.run.Prints.{Prints}
 use Rattle.bench.specs.declared.run.Run.{Run}
+use Rattle.bench.proofs.Counting.{facts-short}
 use Rattle.bench.proofs.Lines.{front-length, back-length, why-length}
 use Rattle.bench.proofs.TraceLines.{octets-line-length, current-line-length, name-length, times-length, query-name-length, query-times-length, links-line-length}
 
@@ -46,7 +47,7 @@ module _ (v : Line) (o : Output) (f : length (v .text) ≤ v .room) (h : o .fill
   put-pending =
       ap pending put-is ∙ take-at (take (o .filled) (o .octets) ++ v .text) (drop (o .filled + length (v .text)) (o .octets)) (o .filled + length (v .text)) front-long
 
-  put-filled : putOf v o .filled ≡ o .filled + length (v .text)
+  pub put-filled : putOf v o .filled ≡ o .filled + length (v .text)
   put-filled = ap (λ (p : Output). p .filled) put-is
 
   put-length : length (putOf v o .octets) ≡ length (o .octets)
@@ -149,6 +150,7 @@ module _ (r : Run) (t : List Record) (e : Event) (xs : List ℕ) (h : length (sc
       both {m = 64} (one-line _ (line-length (numberAfter (r .number)) (playedOf r t e xs .answer)) (omega arith))
       (trace-within (playedOf r t e xs .answer) (scratchOf r t e xs) (playedOf r t e xs .table) h g)
   shown-within prints.Why = one-line _ (why-length (numberAfter (r .number)) (whyOf (r .settings) t e xs 256)) (omega arith)
+  shown-within prints.Facts = one-line _ (facts-short _ _ _ _ _) (omega arith)
 
   pub event-within : Within 6848 (eventLines r t e xs)
   unfolding eventLines

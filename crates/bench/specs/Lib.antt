@@ -2,13 +2,16 @@ pub mod Text
 pub mod Why
 pub mod Output
 pub mod Line
+pub mod Block
 pub mod Play
 pub mod Trace
+pub mod Facts
 pub mod Printed
 pub mod Plays
 pub mod Run
 pub mod Turn
 pub mod Rounds
+pub mod Month
 pub mod Capture
 pub mod Import
 pub mod Importer

@@ -12,9 +12,11 @@ use Rattle.peer.specs.declared.record.Record.{Record}
 use Rattle.peer.specs.declared.settings.Settings.{Settings}
 use Rattle.table.specs.Boundary.{noSettings}
 use Rattle.table.specs.Step.{stepOf, stepIn}
-use Rattle.table.specs.Why.{whyOf}
+use Rattle.table.specs.Why.{reasonNumber, whyOf}
+use Rattle.table.specs.declared.rules.answer.Answer.{Answer}
 use Rattle.table.specs.declared.rules.event.Event.{Event}
 use Rattle.table.specs.Input.{bodyOf, takenOf}
+use Rattle.bench.specs.Facts.{factsOf, onCounts}
 use Rattle.bench.specs.Line.{lineOf, stopLine}
 use Rattle.bench.specs.Output.{Line, short, said}
 use Rattle.bench.specs.Play.{zeros, numberAfter}
@@ -29,14 +31,19 @@ use Rattle.bench.specs.declared.run.Prints.{Prints}
 abbrev pub Shown : Type 0
 Shown = ℕ → Settings → List Record → Event → List ℕ → List Line
 
+-- 02, K12: what is counted of an event.
+abbrev pub counted : {A : Type 0} → (Answer → ℕ → List ℕ → Bool → ℕ → A) → Settings → List Record → Event → List ℕ → A
+counted f s t e xs = onCounts f (s .role) e xs (stepOf s t e xs 256 .answer) (reasonNumber (whyOf s t e xs 256 .reason)) (stepIn s t e xs zeros)
+
 -- "one line an event"; "the output scratch is 256 zero bytes for each event". Behind it, where it is traced, the lines of the trace. 02, K4: or why it came
--- to that, in place of its line.
+-- to that, in place of its line. K12: or what is counted of it, as octets.
 unfoldable pub shownBy : Prints → Shown
 shownBy prints.Lines n s t e xs = short (lineOf n (stepOf s t e xs 256 .answer)) ∷ []
 shownBy prints.Trace n s t e xs =
     short (lineOf n (stepOf s t e xs 256 .answer)) ∷
     traceLines (stepOf s t e xs 256 .answer) (stepIn s t e xs zeros) (stepOf s t e xs 256 .table)
 shownBy prints.Why n s t e xs = short (whyLine n (whyOf s t e xs 256)) ∷ []
+shownBy prints.Facts n s t e xs = short (counted factsOf s t e xs) ∷ []
 
 -- Between two records: the settings, the table, the number of the last event; and whether no record came yet.
 pub record Standing : Type 0 where

@@ -55,7 +55,7 @@ fn is_over(s: State) -> bool
 }
 
 // A line on standard error that names a file.
-fn complain(path: &[u8], what: &[u8]) {
+pub(crate) fn complain(path: &[u8], what: &[u8]) {
     io::write_all(STDERR_FILENO, b"bench: ");
     io::write_all(STDERR_FILENO, path);
     io::write_all(STDERR_FILENO, what);

@@ -1,25 +1,31 @@
 // The bench program: records on standard input, one line an event on standard output.
+mod block;
 mod capture;
+mod facts;
 mod import;
 mod importer;
 mod input;
 mod lent;
 mod line;
+mod month;
 mod passed;
 mod put;
 mod rows;
 mod run;
 mod show;
 mod text;
+mod total;
 mod trace;
 mod ways;
 mod why;
 
 use import::import_files;
 use libc::STDIN_FILENO;
+use month::month_files;
 use run::Prints;
 use run::Run;
 use run::round;
+use total::total_blocks;
 ghost use mathlib.Core.Path.{_≡_};
 ghost use Rattle.bench.specs.Text.{sameOf};
 
@@ -46,6 +52,8 @@ enum Mode {
     Trace,
     Why,
     Import,
+    Total,
+    Month,
     Unknown,
 }
 
@@ -76,11 +84,17 @@ fn asked_mode() -> Mode {
     if is_word(&word[..n], b"import") {
         return Mode::Import;
     }
+    if is_word(&word[..n], b"month") {
+        return Mode::Month;
+    }
     if 2 < count {
         return Mode::Unknown;
     }
     if is_word(&word[..n], b"trace") {
         return Mode::Trace;
+    }
+    if is_word(&word[..n], b"total") {
+        return Mode::Total;
     }
     if is_word(&word[..n], b"why") {
         Mode::Why
@@ -96,10 +110,12 @@ fn main() {
         Mode::Trace => run_all(Prints::Trace),
         Mode::Why => run_all(Prints::Why),
         Mode::Import => import_files(),
+        Mode::Total => total_blocks(),
+        Mode::Month => month_files(),
         Mode::Unknown => {
             io::write_all(
                 libc::STDERR_FILENO,
-                b"bench: unknown argument: 'trace', 'why', 'import SETTINGS CAPTURE', or none, with the records on standard input\n",
+                b"bench: unknown argument: 'trace', 'why', 'import SETTINGS CAPTURE', 'month FILE..', 'total', or none, with the records on standard input\n",
             );
         }
     }

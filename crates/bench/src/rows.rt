@@ -17,7 +17,13 @@ ghost use Rattle.table.specs.Run.{Sound};
 ghost use Rattle.bench.specs.Play.{zeros};
 
 // One event.
-fn play_in(table: &mut [u8], s: Settings, e: Event, frame: &[u8], out: &mut [u8]) -> Answer
+pub(crate) fn play_in(
+    table: &mut [u8],
+    s: Settings,
+    e: Event,
+    frame: &[u8],
+    out: &mut [u8],
+) -> Answer
     ensures { λ r. ⌜ (r ≡ hostAnswer (now (table .entry)) s e (now (frame .entry)) (now (out .entry))) × (now (table .exit) ≡ hostTable (now (table .entry)) s e (now (frame .entry)) (now (out .entry))) × (now (out .exit) ≡ hostIn (now (table .entry)) s e (now (frame .entry)) (now (out .entry))) ⌝ }
 {
     match e {

@@ -3,6 +3,7 @@ use crate::input::shift;
 use crate::line::write_stop;
 use crate::text::has_room;
 use crate::ways::explained;
+use crate::ways::noted;
 use crate::ways::plain;
 use crate::ways::traced_event;
 use libc::STDOUT_FILENO;
@@ -32,6 +33,8 @@ pub enum Prints {
     Trace,
     // Why it came to that, in place of its line (02, K4).
     Why,
+    // What is counted of it, as octets (02, K12).
+    Facts,
 }
 
 // Where a run stands. Of the input buffer the octets from `at` to `have` are still to be taken; of the output buffer the first `out` are
@@ -193,6 +196,10 @@ fn event(table: &mut [u8], output: &mut [u8], r: Run, e: Event, frame: &[u8], si
         }
         Prints::Why => {
             next.out = explained(table, output, r, number, e, frame);
+            next
+        }
+        Prints::Facts => {
+            next.out = noted(table, output, r, e, frame);
             next
         }
     }

@@ -1,19 +1,28 @@
 // An event, played on the table's octets and printed: one function for each way to print it. Each gives where the next line goes.
+use crate::facts::hold_of;
+use crate::facts::reported_by;
+use crate::facts::sets_hold;
+use crate::facts::write_facts;
 use crate::lent::lent_play;
 use crate::line::write_line;
 use crate::rows::play;
+use crate::rows::play_in;
 use crate::rows::play_on;
 use crate::rows::records_in;
 use crate::run::Run;
 use crate::show::traced;
 use crate::why::write_why;
+use peer::settings::Settings;
+use peer::turn::Turn;
 use table::records::why::why;
 use table::rules::event::Event;
+use table::rules::why::reason_number;
 ghost use mathlib.Core.Path.{_≡_};
-ghost use Rattle.table.specs.Host.{hostAnswer, hostTable};
+ghost use Rattle.table.specs.Host.{hostAnswer, hostIn, hostTable};
 ghost use Rattle.table.specs.Rows.{recordsOf};
 ghost use Rattle.table.specs.Run.{Sound};
-ghost use Rattle.table.specs.Why.{whyOf};
+ghost use Rattle.table.specs.Why.{hostWhy, reasonNumber, whyOf};
+ghost use Rattle.bench.specs.Facts.{droppedBy, factsOf, onCounts};
 ghost use Rattle.bench.specs.Line.{lineOf};
 ghost use Rattle.bench.specs.Output.{putAll, putOf, short, upTo};
 ghost use Rattle.bench.specs.Play.{zeros};
@@ -70,4 +79,44 @@ pub(crate) fn explained(
     let w = why(r.settings, records_in(&*table), e, frame, 256);
     play(table, r.settings, e, frame);
     write_why(output, r.out, number, w)
+}
+
+// The rule that dropped a frame, 0 where none did. It is asked of the table after the frame, which a frame that is dropped leaves as it was.
+fn dropped_by(table: &[u8], s: Settings, e: Event, frame: &[u8], verdict: u8) -> u8
+    ensures { λ r. ⌜ r ≡ droppedBy e verdict (reasonNumber (hostWhy (now (table .entry)) s e (now (frame .entry)) 256 .reason)) ⌝ }
+{
+    match e {
+        Event::Frame => {
+            if verdict != Turn::DISCARD {
+                return 0;
+            }
+            let w = table::host::why::why(table, s, e, frame, 256);
+            let reason = w.reason;
+            reason_number(reason)
+        }
+        Event::Ask { .. } => 0,
+        Event::Links => 0,
+        Event::Clock(_) => 0,
+    }
+}
+
+// What is counted of it, as octets (02, K12).
+pub(crate) fn noted(table: &mut [u8], output: &mut [u8], r: Run, e: Event, frame: &[u8]) -> usize
+    ensures { λ n. ⌜ (now (table .exit) ≡ hostTable (now (table .entry)) (r .settings) e (now (frame .entry)) zeros) × (upTo (now (output .exit)) n ≡ putOf (short (onCounts factsOf (r .settings .role) e (now (frame .entry)) (hostAnswer (now (table .entry)) (r .settings) e (now (frame .entry)) zeros) (reasonNumber (hostWhy (hostTable (now (table .entry)) (r .settings) e (now (frame .entry)) zeros) (r .settings) e (now (frame .entry)) 256 .reason)) (hostIn (now (table .entry)) (r .settings) e (now (frame .entry)) zeros))) (upTo (now (output .entry)) (r .out))) ⌝ }
+{
+    let mut scratch = [0u8; 256];
+    let s = r.settings;
+    let a = play_in(&mut *table, s, e, frame, &mut scratch);
+    let dropped = dropped_by(&*table, s, e, frame, a.verdict);
+    let set = sets_hold(s.role, e, a);
+    let hold = hold_of(set, frame, a);
+    write_facts(
+        output,
+        r.out,
+        a,
+        dropped,
+        reported_by(e, a.written, &scratch),
+        set,
+        hold,
+    )
 }

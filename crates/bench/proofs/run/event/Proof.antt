@@ -1,6 +1,6 @@
--- `bench::run::event` meets its contract: played and printed in one of three ways, and the run behind it.
+-- `bench::run::event` meets its contract: played and printed in one of four ways, and the run behind it.
 -- Assumes nothing.
-use Rattle.bench.proofs.Events.{event-run, plain-output, traced-output, why-output}
+use Rattle.bench.proofs.Events.{event-run, facts-output, plain-output, traced-output, why-output}
 use Rattle.bench.specs.Output.{Output, upTo}
 use Rattle.bench.specs.Run.{eventOutput}
 use Rattle.table.specs.Rows.{recordsOf}
@@ -33,6 +33,12 @@ enum-told-3 c = search needs
 
 explained-requires : tie.Need-explained-requires
 explained-requires c κs = search needs
+
+enum-told-4 : tie.Need-enum-told-4
+enum-told-4 c = search needs
+
+noted-requires : tie.Need-noted-requires
+noted-requires c κs = search needs
 
 same-length : tie.Need-same-length
 same-length c = search needs
@@ -92,6 +98,25 @@ returns-3 c =
       λ k. c .before .before .before .before .before .before .before .before .before .before .before .shared-slice-known .given k .fits,
     )
 
+same-length-7 : tie.Need-same-length-7
+same-length-7 c = search needs
+
+same-length-8 : tie.Need-same-length-8
+same-length-8 c = search needs
+
+returns-4 : tie.Need-returns-4
+returns-4 c =
+    let a = c .before .before .before .before .before .before .before .before .before .before .before .before .before .before .args in
+    let ts = now (a .table) in
+    let n = c .before .before .before .before .before .before .before .before .before .before .counted .ensures in (
+      λ i.
+          let h : upTo (c .before .before .before .before .noted .last .1 .0) (c .before .before .before .before .noted .result) ≡ eventOutput (a .r) (recordsOf ts) (a .e) (now (a .frame)) (now (a .output)) =
+          facts-output (a .r) ts (a .e) (now (a .frame)) (now (a .output)) _ n _ (i .table) (λ k. c .before .before .before .before .before .before .before .before .before .before .before .before .before .slice-known .given k .fits) (λ k. c .before .before .before .before .before .before .before .before .before .before .before .shared-slice-known .given k .fits) (c .before .before .before .before .before .before .before .enum-told4 .given .1) (c .before .before .before .before .noted .ensures .1) in
+          (c .before .before .before .before .noted .ensures .0, event-run (a .r) (recordsOf ts) (a .e) (now (a .frame)) (now (a .output)) (a .size) _ _ _ _ n (c .before .before .before .before .before .before .before .before .before .behind .ensures) h, ap (λ (o : Output). o .octets) h),
+      λ k. c .before .before .before .before .before .before .before .before .before .before .before .before .before .slice-known .given k .fits,
+      λ k. c .before .before .before .before .before .before .before .before .before .before .before .shared-slice-known .given k .fits,
+    )
+
 pub event-spec : {M : Type 1} → statement M
 event-spec =
     tie.close
@@ -104,6 +129,8 @@ event-spec =
     traced-event-requires
     enum-told-3
     explained-requires
+    enum-told-4
+    noted-requires
     same-length
     same-length-2
     returns
@@ -112,4 +139,7 @@ event-spec =
     returns-2
     same-length-5
     same-length-6
-    returns-3)
+    returns-3
+    same-length-7
+    same-length-8
+    returns-4)

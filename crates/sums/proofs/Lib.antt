@@ -1,0 +1,10 @@
+pub mod Divides
+pub mod LowestTerms
+pub mod Totals
+pub mod Placewise
+pub mod Joining
+pub mod Counting
+pub mod Means
+pub mod Tokens
+pub mod Reading
+pub mod Examples

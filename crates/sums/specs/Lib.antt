@@ -1,0 +1,9 @@
+pub mod Gcd
+pub mod Lowest
+pub mod Sums
+pub mod Block
+pub mod Orders
+pub mod Token
+pub mod Place
+pub mod Reader
+pub mod Adding
