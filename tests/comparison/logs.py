@@ -1,16 +1,20 @@
-"""Another maker's log: what `check INPUT LOG` says of logs that are right, and of every single-octet
-change of stored ones.
+"""Another maker's log: what `check INPUT LOG` says of stored logs, of logs that are right, and of every
+single-octet change of some.
 
 python3 -m tests.comparison.logs --program CMD.. [--seed S] [--count N] [--every]
 
-What is to be said is worked out here from our own lines and the log, both whole: line by line, and in a
-line piece by piece. An octet is changed into a blank, a line's end, a digit, a letter and one that no log
-has, and blanks and lines' ends are put in; with --every it is each octet that there is.
+A stored log is a folder of tests/checks: `about` says in one line what it shows, `case` names the case of
+tests/cases whose input it stands beside, `log` is the log, and `said` the line that is printed. What is to
+be said of all others is worked out here from our own lines and the log, both whole: line by line, and in a
+line piece by piece; the stored ones must come out so too. An octet is changed into a blank, a line's end, a
+digit, a letter and one that no log has, and blanks and lines' ends are put in; with --every it is each octet
+that there is.
 """
 
 import argparse
 import concurrent.futures
 import os
+import pathlib
 import shlex
 import subprocess
 
@@ -20,6 +24,7 @@ from tests.cases import CASES, read_hex
 from . import generate
 from .walk import Dice
 
+CHECKS = pathlib.Path(__file__).resolve().parents[1] / "checks"
 FIELDS = "number refusal verdict notice code written ds state".split()
 # Stored logs that are changed: the nine steps, and one that stops.
 CHANGED = ("nine_steps", "stop_cut_body")
@@ -70,10 +75,22 @@ def line_changes(log):
         yield log + more
 
 
-def stored(every):
+def case(folder):
+    """The input of a stored case, and our lines."""
+    return read_hex((folder / "input.hex").read_text()), (folder / "stdout").read_bytes()
+
+
+def stored():
+    """Every stored log by name: input, our lines, log, and what is said."""
+    for folder in sorted(path for path in CHECKS.iterdir() if path.is_dir()):
+        octets, ours = case(CASES / (folder / "case").read_text().strip())
+        yield folder.name, octets, ours, (folder / "log").read_bytes(), (folder / "said").read_text()
+
+
+def changed(every):
     """Every stored case with its own log; some with every change of it. Input, our lines, log."""
     for folder in sorted(path for path in CASES.iterdir() if path.is_dir()):
-        octets, log = read_hex((folder / "input.hex").read_text()), (folder / "stdout").read_bytes()
+        octets, log = case(folder)
         yield octets, log, log
         if folder.name in CHANGED:
             for other in (*changes(log, every), *line_changes(log)):
@@ -118,14 +135,17 @@ def main():
     parser.add_argument("--every", action="store_true")
     given = parser.parse_args()
     commands = [shlex.split(program) for program in given.program]
-    jobs = list(stored(given.every))
+    kept = list(stored())
+    faults = [f"{name}: worked out as {verdict(ours, log)}, stored as {line.strip()}"
+              for name, _, ours, log, line in kept if verdict(ours, log) + "\n" != line]
+    jobs = [(octets, ours, log) for _, octets, ours, log, _ in kept]
+    jobs += changed(given.every)
     jobs += generated(commands[0], given.seed, given.count)
-    faults = []
     with concurrent.futures.ThreadPoolExecutor(os.cpu_count()) as pool:
         for command in commands:
             faults += try_program(command, jobs, pool)
     kinds = sorted({verdict(ours, log).split(" ")[0] for _, ours, log in jobs})
-    ending.tell(f"{len(jobs)} logs checked, {', '.join(kinds)}", faults)
+    ending.tell(f"{len(jobs)} logs checked, {len(kept)} of them stored: {', '.join(kinds)}", faults)
 
 
 if __name__ == "__main__":

@@ -9,7 +9,7 @@ DOCUMENTS = ("README.md", "docs/DECISIONS.md", "docs/FAULTS.md", "docs/PROMISES.
 LINK = re.compile(r"\]\((?!http)([^)#\s]*)(?:#([^)\s]+))?\)")
 HEADING = re.compile(r"^#+ (.+)$", re.MULTILINE)
 # A path, and perhaps a name of it: `crates/peer/specs/Filter.antt: passesOf`.
-PLACE = re.compile(r"((?:crates/)?(?:octets|peer|table|sums|bench)/(?:specs|proofs|src)/"
+PLACE = re.compile(r"((?:crates/)?(?:octets|peer|table|sums|rival|bench)/(?:specs|proofs|src)/"
                    r"[\w/]+\.(?:antt|rt))(?:: ([\w-]+))?")
 BETWEEN = (", ", " and ", ": ", ",\n", " to ")
 WORD = re.compile(r"[\w-]+")

@@ -5,7 +5,7 @@ import pathlib
 import re
 
 ROOT = pathlib.Path(__file__).resolve().parents[2]
-CRATES = ("octets", "peer", "table", "sums", "bench")
+CRATES = ("octets", "peer", "table", "sums", "rival", "bench")
 TOKEN = re.compile(r"`([^`\n]+)`")
 SIGNATURE = r"^\s*(?:(?:abbrev|unfoldable|pub)\s+)*(?:(?:record|data)\s+{0}(?=[\s(]|$)|{0}\s+:)"
 ITEM = r"\b(?:fn|struct|enum|const)\s+{0}\b"

@@ -160,7 +160,7 @@ def twice_settled_has_no_octets():
 
 def command_line_faults():
     """Wrong uses of the command get one line that says how it is used."""
-    usage = ("scenario [--table | --lines | --octets | --check | --chart OUT.svg] FILE, "
+    usage = ("scenario [--table | --lines | --octets | --check | --chart OUT.svg | --rival LOG] FILE, "
              "or scenario --help [WORD]")
     wanted = [([], f"no files given, one is wanted: {usage}"),
               (["a", "b"], f"2 files given, one is wanted: {usage}"),

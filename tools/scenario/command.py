@@ -4,20 +4,20 @@ import gc
 import os
 import shlex
 import sys
-import tempfile
 
-from . import from_capture, manual, source, stream
+from . import from_capture, manual, rival, source, stream
 from .answers import BenchFault
+from .laid import laid
 from .show import Teller
 from .source import ScenarioFault, UsageFault
 from .values import Fault, visible
 
-USAGE = "scenario [--table | --lines | --octets | --check | --chart OUT.svg] FILE, or scenario --help [WORD]"
-OPTIONS = ("--table", "--lines", "--octets", "--check", "--chart", "--from")
+USAGE = "scenario [--table | --lines | --octets | --check | --chart OUT.svg | --rival LOG] FILE, or scenario --help [WORD]"
+OPTIONS = ("--table", "--lines", "--octets", "--check", "--chart", "--rival", "--from")
 # Nothing here refers to itself, so what is no longer needed goes at once; Python need not look for it but after so many objects.
 SELDOM = 100_000
 # Options with a value behind them.
-VALUED = ("--chart", "--bench", "--from", "--settings")
+VALUED = ("--chart", "--rival", "--bench", "--from", "--settings")
 
 
 def arguments(words):
@@ -59,17 +59,8 @@ def put(octets, flush=True):
 
 def octets(lines, name):
     """The bench input, whole or not at all."""
-    with tempfile.TemporaryFile() as laid:
-        settings = 0
-        for line in lines:
-            settings += line.settings is not None
-            laid.write(line.settings.record if line.settings else b"")
-            laid.writelines(event.record for event in line.events)
-        if settings > 1:
-            raise UsageFault(f"{name}: settings are given {settings} times, a bench input has them once: "
-                             "--octets is for a scenario with one settings line")
-        laid.seek(0)
-        for piece in iter(lambda: laid.read(stream.PIECE), b""):
+    with laid(lines, name, "--octets") as (made, _):
+        for piece in iter(lambda: made.read(stream.PIECE), b""):
             put(piece)
 
 
@@ -132,6 +123,12 @@ def produce(options, file, command):
     """Plays one file as the options say; the number of expectations that were not met."""
     if "--from" in options:
         return turn(file, options["--settings"])
+    if "--rival" in options:
+        stream.ready(command)
+        programs = rival.Programs(*(command + [word] for word in ("check", "trace", "why")))
+        told, right = rival.compare(file, options["--rival"], programs)
+        put(("\n".join(told) + "\n").encode())
+        return 0 if right else 1
     text, name = source.opened(file)
     with text:
         lines = source.lines(text, name)

@@ -12,6 +12,8 @@ scenario: plays a scenario on the bench program and tells what the peer table an
   scenario --table FILE          the same with the whole table after each event
   scenario --check FILE ..       only what was not as an 'expect' line of a scenario says
   scenario --chart OUT.svg FILE  the message chart of it, a picture
+  scenario --rival LOG FILE      another maker's log of answers, in plain lines: right, or the first event that it answers
+                                 otherwise, with both answers in words and the rule that decides ours
   scenario --lines FILE          the bench program's plain lines
   scenario --octets FILE         the bench input itself, octets on standard output; nothing is run
   scenario --from CAPTURE --settings 'ap own=ADDRESS'
@@ -19,7 +21,7 @@ scenario: plays a scenario on the bench program and tells what the peer table an
                                  words, with the clock steps between; './capture' makes such of others
   scenario --help [WORD]         this text; what a word means and takes, with an example
 
-FILE '-' is standard input. A fault is told as FILE:LINE: what is wrong and what would be right, all faults of a
+FILE '-' is standard input, and so is LOG. A fault is told as FILE:LINE: what is wrong and what would be right, all faults of a
 file at once, 20 at most, and the status is 1; so it is where an expectation is not met. --bench PROGRAM plays on
 another program than ./bench.
 

@@ -31,11 +31,14 @@ pub mod Refills
 pub mod StepLengths
 pub mod RowReads
 pub mod Replays
+pub mod SaidLines
 pub mod TableLines
 pub mod TableTrip
 pub mod TraceLines
 pub mod Whole
 pub mod WholeExample
+pub mod Checks
+pub mod CheckExample
 pub mod Words
 pub mod Yard
 pub mod YardExample

@@ -31,33 +31,33 @@ pub at-start : (prints : Prints) (ts xs o : List ℕ) (r : Run) → ts ≡ repli
 unfolding startOf
 at-start prints ts xs o r z a b e = rw e (at-first prints ts xs o (startOf prints) z a b refl)
 
--- a turn
-data Turns (prints : Prints) (ts xs o : List ℕ) (r : Run) : Type 0 where
-  went-on : {read wrote : List ℕ} → Ran prints ts xs o r read wrote → Turns prints ts xs o r
-  failed-then : r .done ≡ true → Turns prints ts xs o r
+-- A turn, of a run with `out` octets pending and `wrote` written: it goes on; or it could not read.
+pub data Turns (prints : Prints) (out : ℕ) (wrote ts xs o : List ℕ) (r : Run) : Type 0 where
+  went-on : {read : List ℕ} → Ran prints ts xs o r read wrote → Turns prints out wrote ts xs o r
+  failed-then : r .done ≡ true → r .over ≡ false → r .out ≡ out → Turns prints out wrote ts xs o r
 
 module _ {prints : Prints} {ts xs o : List ℕ} {r : Run} {read wrote : List ℕ} (w : Ran prints ts xs o r read wrote) (d : r .done ≡ false) (room : r .out + 8192 ≤ length o) where
-  refilled : (us ys k : List ℕ) (q : Run) → length ys ≡ length xs → takenOf (ahead xs r) (r .first) ≡ Cut → r .over ≡ false → us ≡ ts → k ≡ o → Refilled xs r ys q → Turns prints us ys k q
+  refilled : (us ys k : List ℕ) (q : Run) → length ys ≡ length xs → takenOf (ahead xs r) (r .first) ≡ Cut → r .over ≡ false → us ≡ ts → k ≡ o → Refilled xs r ys q → Turns prints (r .out) wrote us ys k q
   unfolding doneOf
-  refilled us ys k q a c v g e (failed f) = failed-then (rw f)
+  refilled us ys k q a c v g e (failed f) = failed-then (rw f) (rw f v) (rw f)
   refilled us ys k q a c v h e (more n f g) = rw (h, e) (went-on (came n w d c v a f g))
 
-  by-turn : (us ys k : List ℕ) (q : Run) → length ys ≡ length xs → length k ≡ length o → Turned (takenOf (ahead xs r) (r .first)) ts xs o r us ys k q → Turns prints us ys k q
+  by-turn : (us ys k : List ℕ) (q : Run) → length ys ≡ length xs → length k ≡ length o → Turned (takenOf (ahead xs r) (r .first)) ts xs o r us ys k q → Turns prints (r .out) wrote us ys k q
   by-turn us ys k q a b (took f e) = rw e (went-on (taken w d room b f))
   by-turn us ys k q a b (wanted c v f g e) = refilled us ys k q a c v g e f
 
-  turned : (us ys k : List ℕ) (q : Run) → length ys ≡ length xs → length k ≡ length o → TurnOf ts xs o r us ys k q → Turns prints us ys k q
+  pub turned : (us ys k : List ℕ) (q : Run) → length ys ≡ length xs → length k ≡ length o → TurnOf ts xs o r us ys k q → Turns prints (r .out) wrote us ys k q
   turned us ys k q a b t = by-turn us ys k q a b (t (kept w .places) (kept w .inside))
 
 -- with room left, or the lines written
-still-on : {prints : Prints} {us ys k : List ℕ} {q : Run} → Turns prints us ys k q → q .done ≡ false → q .out + 8192 ≤ length k → Reached prints us ys k q
+still-on : {prints : Prints} {out : ℕ} {wrote us ys k : List ℕ} {q : Run} → Turns prints out wrote us ys k q → q .done ≡ false → q .out + 8192 ≤ length k → Reached prints us ys k q
 still-on (went-on w) d l = ran w (λ e. l) (λ e. clash e d)
-still-on (failed-then e) d l = broke e
+still-on (failed-then e v z) d l = broke e
 
-written-out : {prints : Prints} {us ys k : List ℕ} (t q : Run) → 8192 ≤ length k → Turns prints us ys k t → Flushed k t q → Reached prints us ys k q
+written-out : {prints : Prints} {out : ℕ} {wrote us ys k : List ℕ} (t q : Run) → 8192 ≤ length k → Turns prints out wrote us ys k t → Flushed k t q → Reached prints us ys k q
 unfolding flushedOf
 written-out t q l (went-on w) (written h e) = rw e (ran (went w h) (λ d. omega arith) (λ d. refl))
-written-out t q l (failed-then f) (written h e) = broke (rw e f)
+written-out t q l (failed-then f v z) (written h e) = broke (rw e f)
 written-out t q l u (unwritten e) = broke (rw e)
 
 -- a round

@@ -21,7 +21,7 @@ use Rattle.bench.specs.Printed.{benchOutput, printedFrom, shownBy}
 use Rattle.bench.specs.Text.{fieldOf, tens}
 
 -- role 1, own address 02:00:00:00:00:01, no RSNA, timeouts of 100 TU; a clock step of 0 TU; the head of a frame of 24 octets
-abbrev told : List ℕ
+abbrev pub told : List ℕ
 told =
     0x0b ∷ 3 ∷ 0 ∷ 12 ∷ 0 ∷ 1 ∷ 2 ∷ 0 ∷ 0 ∷ 0 ∷ 0 ∷ 1 ∷ 0 ∷ 100 ∷ 0 ∷ 100 ∷ 0
     ∷ 0x0b ∷ 3 ∷ 3 ∷ 2 ∷ 0 ∷ 0 ∷ 0

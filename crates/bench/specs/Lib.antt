@@ -16,3 +16,5 @@ pub mod Capture
 pub mod Import
 pub mod Importer
 pub mod Kept
+pub mod Said
+pub mod Check

@@ -62,13 +62,13 @@ pub(crate) fn complain(path: &[u8], what: &[u8]) {
 }
 
 // The same, with what the system says.
-fn unreadable(path: &[u8]) {
+pub(crate) fn unreadable(path: &[u8]) {
     io::write_all(STDERR_FILENO, b"bench: ");
     os::fail(path);
 }
 
 // Writes out what lies in the buffer; whether that went well.
-fn flush(output: &[u8], n: usize) -> bool {
+pub(crate) fn flush(output: &[u8], n: usize) -> bool {
     if output.len() < n {
         return false;
     }

@@ -1,6 +1,7 @@
 // The bench program: records on standard input, one line an event on standard output.
 mod block;
 mod capture;
+mod check;
 mod facts;
 mod import;
 mod importer;
@@ -12,6 +13,7 @@ mod passed;
 mod put;
 mod rows;
 mod run;
+mod said;
 mod show;
 mod text;
 mod total;
@@ -19,6 +21,7 @@ mod trace;
 mod ways;
 mod why;
 
+use check::check_files;
 use import::import_files;
 use libc::STDIN_FILENO;
 use month::month_files;
@@ -54,6 +57,7 @@ enum Mode {
     Import,
     Total,
     Month,
+    Check,
     Unknown,
 }
 
@@ -87,6 +91,9 @@ fn asked_mode() -> Mode {
     if is_word(&word[..n], b"month") {
         return Mode::Month;
     }
+    if is_word(&word[..n], b"check") {
+        return Mode::Check;
+    }
     if 2 < count {
         return Mode::Unknown;
     }
@@ -112,10 +119,11 @@ fn main() {
         Mode::Import => import_files(),
         Mode::Total => total_blocks(),
         Mode::Month => month_files(),
+        Mode::Check => check_files(),
         Mode::Unknown => {
             io::write_all(
                 libc::STDERR_FILENO,
-                b"bench: unknown argument: 'trace', 'why', 'import SETTINGS CAPTURE', 'month FILE..', 'total', or none, with the records on standard input\n",
+                b"bench: unknown argument: 'trace', 'why', 'import SETTINGS CAPTURE', 'month FILE..', 'total', 'check INPUT LOG', or none, with the records on standard input\n",
             );
         }
     }

@@ -1,0 +1,21 @@
+-- `rival::one_more` meets its contract: the definition's two cases are the code's.
+-- Assumes nothing.
+use Rattle.octets.proofs.Branch.{tests}
+use Rattle.rival.specs.Log.{oneMore}
+use borrow.Author.Needs.{needs}
+use Rattle.rival.proofs.one_more.Statement.{statement}
+use Rattle.rival.proofs.one_more.Tie as tie
+
+add-result : tie.Need-add-result
+add-result c = search needs
+
+returns : tie.Need-returns
+unfolding oneMore
+returns c = search tests
+
+returns-2 : tie.Need-returns-2
+unfolding oneMore
+returns-2 c = search tests
+
+pub one-more-spec : {M : Type 1} → statement M
+one-more-spec = tie.close (tie.spec add-result returns returns-2)

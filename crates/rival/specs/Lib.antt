@@ -1,0 +1,5 @@
+pub mod Alike
+pub mod Log
+pub mod Says
+pub mod Beside
+pub mod Pieces
