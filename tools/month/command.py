@@ -6,6 +6,7 @@ import shlex
 import subprocess
 import sys
 
+from tools import ending
 from tools.scenario.answers import BenchFault
 from tools.scenario.source import UsageFault
 from tools.scenario.stream import BENCH, ready
@@ -117,17 +118,5 @@ def run(given):
 
 
 def main(given):
-    """Ends with 0, or with 1 and what is wrong on standard error; a pipe whose reader has seen enough is no fault."""
-    try:
-        return run(given)
-    except (UsageFault, BenchFault) as fault:
-        print(f"month: {fault}", file=sys.stderr)
-    except KeyboardInterrupt:
-        return 130
-    except OSError as fault:
-        # What is left must not be tried again at the interpreter's end.
-        os.dup2(os.open(os.devnull, os.O_WRONLY), sys.stdout.fileno())
-        if isinstance(fault, BrokenPipeError):
-            return 0
-        print(f"month: standard output: {fault.strerror}", file=sys.stderr)
-    return 1
+    """Ends with 0, or with 1 and what is wrong on standard error."""
+    return ending.status("month", lambda: run(given), (UsageFault, BenchFault))

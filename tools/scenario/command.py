@@ -1,9 +1,10 @@
 """The command line of scenario."""
 
 import gc
-import os
 import shlex
 import sys
+
+from tools import ending
 
 from . import from_capture, manual, rival, source, stream
 from .answers import BenchFault
@@ -158,21 +159,16 @@ def play(words):
     return 1 if sum([produce(options, file, command) for file in files]) else 0
 
 
-def main(words):
-    """Ends with 0, or with 1 and what is wrong on standard error; a pipe whose reader has seen enough is no fault."""
-    gc.set_threshold(SELDOM)
+def told(words):
+    """The same, with the faults of a scenario's text told."""
     try:
         return play(words)
     except ScenarioFault as fault:
         print(fault, file=sys.stderr)
-    except (UsageFault, BenchFault) as fault:
-        print(f"scenario: {fault}", file=sys.stderr)
-    except KeyboardInterrupt:
-        return 130
-    except OSError as fault:
-        # What is left must not be tried again at the interpreter's end.
-        os.dup2(os.open(os.devnull, os.O_WRONLY), sys.stdout.fileno())
-        if isinstance(fault, BrokenPipeError):
-            return 0
-        print(f"scenario: standard output: {fault.strerror}", file=sys.stderr)
     return 1
+
+
+def main(words):
+    """Ends with 0, or with 1 and what is wrong on standard error."""
+    gc.set_threshold(SELDOM)
+    return ending.status("scenario", lambda: told(words), (UsageFault, BenchFault))
