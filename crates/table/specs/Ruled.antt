@@ -40,6 +40,13 @@ tickedIn s t d l = pick (eqb d 0) l (sets l 0 (reportsOf s d 0 t))
 unfoldable pub newAt : List Record → Found → Bool
 newAt t at = onFound at false (λ i. eqb (getD t i freeOf .address) 0)
 
+-- Whether an event is a primitive: what it asks of the whole table (Others.antt) no other event asks.
+abbrev pub asking : Event → Bool
+asking event.Frame = false
+asking (event.Ask q a c) = true
+asking event.Links = false
+asking (event.Clock d) = false
+
 -- Whether an event is a clock step, and of how many TU; whether it names links.
 abbrev pub ticking : Event → Bool
 ticking event.Frame = false

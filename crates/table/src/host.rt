@@ -4,6 +4,7 @@ pub mod boundary;
 pub mod calls;
 pub mod input;
 pub mod link;
+mod others;
 pub mod play;
 pub mod reasons;
 pub mod rows;

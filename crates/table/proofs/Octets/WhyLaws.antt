@@ -25,21 +25,14 @@ module _ (xs : List ℕ) (s : Settings) (e : Event) (fs : List ℕ) (n : ℕ) wh
   short-buffer r = rw (lt-ltb n (roomOf e) r) (pick-both (λ (w : Why). plain (Refusal 1) ≡ w) (isTable xs) refl refl)
 
   module _ (r : roomOf e ≤ n) where
-    pub no-rows : isTable xs ≡ false → plain (Refusal 2) ≡ hostWhy xs s e fs n
-    unfolding hostWhy
-    no-rows i = rw (i, le-ltb n (roomOf e) r)
+    -- what is no table, and one that is not well formed
+    pub known-ill : (isTable xs && wellFormed s (recordsOf xs)) ≡ false → plain (Refusal 2) ≡ hostWhy xs s e fs n
+    unfolding hostWhy whyOf
+    known-ill w = by-bool (isTable xs) (λ i. rw (i, le-ltb n (roomOf e) r, rw i at w)) (λ i. rw (i, le-ltb n (roomOf e) r))
 
-    module _ (long : length xs ≡ 1536) where
-      pub ill-rows : (numberedAt 32 0 xs && wellFormed s (recordsOf xs)) ≡ false → plain (Refusal 2) ≡ hostWhy xs s e fs n
-      unfolding hostWhy whyOf isTable
-      ill-rows w = by-bool (numberedAt 32 0 xs)
-          (λ m. rw (eq-eqb (length xs) 1536 long, m, le-ltb n (roomOf e) r, rw m at w))
-          (λ m. rw (eq-eqb (length xs) 1536 long, m, le-ltb n (roomOf e) r))
-
-      pub well-rows : (numberedAt 32 0 xs && wellFormed s (recordsOf xs)) ≡ true → whyAt s (recordsOf xs) (addressesOf (recordsOf xs)) e fs ≡ hostWhy xs s e fs n
-      unfolding hostWhy whyOf isTable
-      well-rows w =
-          rw (eq-eqb (length xs) 1536 long, and-left (numberedAt 32 0 xs) _ w, and-right (numberedAt 32 0 xs) _ w, le-ltb n (roomOf e) r)
+    pub known-well : isTable xs ≡ true → wellFormed s (recordsOf xs) ≡ true → whyAt s (recordsOf xs) (addressesOf (recordsOf xs)) e fs ≡ hostWhy xs s e fs n
+    unfolding hostWhy whyOf
+    known-well i w = rw (i, w, le-ltb n (roomOf e) r)
 
 -- The reason's number given back, and its value written.
 pub crosses-why : (xs ss : List ℕ) (e : Event) (fs : List ℕ) (n : ℕ) (k : List ℕ) (w : Why) → w ≡ hostWhy xs (settingsIn ss) e fs n → whyCrossed (reasonNumber (w .reason)) (valueWritten k (w .value)) ≡ whyCrossedOf xs ss e fs n k

@@ -109,7 +109,7 @@ pub fn call(table: &mut [u8], s: Settings, e: Event, octets: &[u8], out: &mut [u
     if v.well {} else {
         return Answer::refusal(2);
     }
-    play(table, s, v.linked, e, octets, out)
+    play(table, s, v.linked, v.others, e, octets, out)
 }
 
 // A received frame.

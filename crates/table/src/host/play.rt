@@ -7,20 +7,14 @@ use crate::host::rows::look;
 use crate::host::rows::met;
 use crate::rules::answer::Answer;
 use crate::rules::event::Event;
-use crate::rules::others::Counts;
-use crate::rules::others::counted;
-use crate::rules::others::first_joined;
-use crate::rules::others::others;
 use crate::rules::read::read;
 use crate::rules::seat::Change;
 use crate::rules::seat::Found;
 use crate::rules::seat::answered;
 use crate::rules::seat::refused;
 use octets::frame::Frame;
-use octets::row::blank_at;
 use peer::refuse::Others;
 use peer::settings::Settings;
-use peer::settings::answers;
 use peer::settings::associates;
 ghost use mathlib.Core.Path.{_≡_};
 ghost use mathlib.Core.Bool.{true, false, _||_};
@@ -30,7 +24,7 @@ ghost use Rattle.table.specs.Answer.{countAnswer, saidIn, saidLength};
 ghost use Rattle.table.specs.Lent.{roomOf};
 ghost use Rattle.table.specs.Others.{othersOf};
 ghost use Rattle.table.specs.Rows.{isTable, linkedIn, linksOver, octetsOf, recordsOf};
-ghost use Rattle.table.specs.Ruled.{changeOf, naming, newAt, ruledIn, ruledOf, tickedIn, tickedOf, ticking, tuOf};
+ghost use Rattle.table.specs.Ruled.{asking, changeOf, naming, newAt, ruledIn, ruledOf, tickedIn, tickedOf, ticking, tuOf};
 ghost use Rattle.table.specs.Seat.{metOf};
 
 // How many octets of buffer an event's call needs.
@@ -47,39 +41,6 @@ pub fn room(e: Event) -> usize
         Event::Links => Frame::LONGEST,
         Event::Clock(_) => 256,
     }
-}
-
-// What a station's primitives ask of the whole table; no other role looks at it.
-fn others_in(s: Settings, table: &[u8]) -> Others
-    requires { ⌜ length (now table) ≡ 1536 ⌝ }
-    ensures { λ r. ⌜ r ≡ othersOf s (recordsOf (now (table .entry))) ⌝ }
-{
-    if answers(s.role) {
-        return Others {
-            associated: 0,
-            busy: false,
-        };
-    }
-    let mut associated = 0;
-    let mut joined = 0;
-    let mut associating = 0;
-    let mut i = 32;
-    while 0 < i {
-        i -= 1;
-        // A free place is nobody's.
-        if blank_at(table, 48 * i) {} else {
-            let p = look(table, i);
-            let on = p.is_joined();
-            associated = first_joined(on, p.address, associated);
-            joined = counted(joined, on);
-            associating = counted(associating, p.is_associating());
-        }
-    }
-    let crowd = Counts {
-        joined,
-        associating,
-    };
-    others(s, associated, crowd)
 }
 
 // Whether a change may be one of links: where they are named, and at a free place, whose row is put there whole.
@@ -167,9 +128,9 @@ fn names_links(e: Event) -> bool
 }
 
 // What an event other than a clock step makes of the table. One change for all: the compiler then makes it in one place.
-fn change(s: Settings, table: &[u8], linked: bool, e: Event, octets: &[u8]) -> Change
+fn change(s: Settings, table: &[u8], linked: bool, o: Others, e: Event, octets: &[u8]) -> Change
     requires { ⌜ length (now table) ≡ 1536 ⌝ }
-    ensures { λ c. ⌜ (linked ≡ linkedIn (recordsOf (now (table .entry))) → metOf (recordsOf (now (table .entry))) c ≡ changeOf s (recordsOf (now (table .entry))) e (now (octets .entry))) ⌝ }
+    ensures { λ c. ⌜ (linked ≡ linkedIn (recordsOf (now (table .entry))) → (asking e ≡ true → o ≡ othersOf s (recordsOf (now (table .entry)))) → metOf (recordsOf (now (table .entry))) c ≡ changeOf s (recordsOf (now (table .entry))) e (now (octets .entry))) ⌝ }
 {
     match e {
         Event::Frame => heard_at(s, table, linked, read(s.own, associates(s.role), octets)),
@@ -177,10 +138,7 @@ fn change(s: Settings, table: &[u8], linked: bool, e: Event, octets: &[u8]) -> C
             primitive,
             address,
             code,
-        } => {
-            let o = others_in(s, table);
-            asked_in(s, table, linked, o, primitive, address, code)
-        }
+        } => asked_in(s, table, linked, o, primitive, address, code),
         Event::Links => named_at(s, table, linked, octets),
         Event::Clock(_) => refused(0),
     }
@@ -191,27 +149,30 @@ fn changed(
     table: &mut [u8],
     s: Settings,
     linked: bool,
+    o: Others,
     e: Event,
     octets: &[u8],
     out: &mut [u8],
 ) -> Answer
     requires { ⌜ length (now table) ≡ 1536 ⌝ }
-    ensures { λ r. ⌜ (isTable (now (table .entry)) ≡ true → linked ≡ linkedIn (recordsOf (now (table .entry))) → ticking e ≡ false → roomOf e ≤ length (now (out .entry)) → (r ≡ ruledOf s (recordsOf (now (table .entry))) e (now (octets .entry)) (length (now (out .entry))) .answer) × (now (table .exit) ≡ octetsOf (ruledOf s (recordsOf (now (table .entry))) e (now (octets .entry)) (length (now (out .entry))) .table)) × (now (out .exit) ≡ ruledIn s (recordsOf (now (table .entry))) e (now (octets .entry)) (now (out .entry)))) ⌝ }
+    ensures { λ r. ⌜ (isTable (now (table .entry)) ≡ true → linked ≡ linkedIn (recordsOf (now (table .entry))) → (asking e ≡ true → o ≡ othersOf s (recordsOf (now (table .entry)))) → ticking e ≡ false → roomOf e ≤ length (now (out .entry)) → (r ≡ ruledOf s (recordsOf (now (table .entry))) e (now (octets .entry)) (length (now (out .entry))) .answer) × (now (table .exit) ≡ octetsOf (ruledOf s (recordsOf (now (table .entry))) e (now (octets .entry)) (length (now (out .entry))) .table)) × (now (out .exit) ≡ ruledIn s (recordsOf (now (table .entry))) e (now (octets .entry)) (now (out .entry)))) ⌝ }
 {
-    let c = change(s, &*table, linked, e, octets);
+    let c = change(s, &*table, linked, o, e, octets);
     made(table, c, names_links(e), out)
 }
 
-// An event. `linked` says whether any record has links; the octets of a frame, or of links, are lent beside it.
+// An event. `linked` says whether any record has links, and `o` what a primitive asks of the whole table; the octets of a frame, or of links,
+// are lent beside it.
 pub fn play(
     table: &mut [u8],
     s: Settings,
     linked: bool,
+    o: Others,
     e: Event,
     octets: &[u8],
     out: &mut [u8],
 ) -> Answer
-    ensures { λ r. ⌜ (isTable (now (table .entry)) ≡ true → linked ≡ linkedIn (recordsOf (now (table .entry))) → (r ≡ ruledOf s (recordsOf (now (table .entry))) e (now (octets .entry)) (length (now (out .entry))) .answer) × (now (table .exit) ≡ octetsOf (ruledOf s (recordsOf (now (table .entry))) e (now (octets .entry)) (length (now (out .entry))) .table)) × (now (out .exit) ≡ ruledIn s (recordsOf (now (table .entry))) e (now (octets .entry)) (now (out .entry)))) ⌝ }
+    ensures { λ r. ⌜ (isTable (now (table .entry)) ≡ true → linked ≡ linkedIn (recordsOf (now (table .entry))) → (asking e ≡ true → o ≡ othersOf s (recordsOf (now (table .entry)))) → (r ≡ ruledOf s (recordsOf (now (table .entry))) e (now (octets .entry)) (length (now (out .entry))) .answer) × (now (table .exit) ≡ octetsOf (ruledOf s (recordsOf (now (table .entry))) e (now (octets .entry)) (length (now (out .entry))) .table)) × (now (out .exit) ≡ ruledIn s (recordsOf (now (table .entry))) e (now (octets .entry)) (now (out .entry)))) ⌝ }
 {
     if out.len() < room(e) {
         return Answer::refusal(1);
@@ -222,5 +183,5 @@ pub fn play(
     if ticks(e) {
         return ticked(table, s, step_in(e), out);
     }
-    changed(table, s, linked, e, octets, out)
+    changed(table, s, linked, o, e, octets, out)
 }

@@ -4,6 +4,7 @@ use crate::host::input::Taken;
 use crate::host::input::body;
 use crate::host::input::record_length;
 use crate::host::input::take;
+use crate::host::others::others_for;
 use crate::host::play::play;
 use crate::host::play::room;
 use crate::host::survey::linked_now;
@@ -19,6 +20,7 @@ ghost use lib.ListN.{drop, length, take as front};
 ghost use Prim.Native.Nat.{ℕ, _/_, _≤_};
 ghost use Rattle.octets.specs.Field.{allOctets};
 ghost use Rattle.octets.specs.Pick.{pick};
+ghost use Rattle.peer.specs.Settings.{settingsFit};
 ghost use Rattle.peer.specs.declared.settings.Settings.{Settings as Chosen};
 ghost use Rattle.table.specs.Boundary.{crossed};
 ghost use Rattle.table.specs.Host.{hostAnswer, hostTable, hostIn};
@@ -55,12 +57,12 @@ pub fn checked(s: Settings, table: &[u8]) -> Known
     }
 }
 
-// What is known without the check of a table that is well formed if the settings fit.
-pub fn trusted(s: Settings, table: &[u8]) -> Known
-    ensures { λ k. ⌜ (Sound s (now (table .entry)) → Knows s (now (table .entry)) (k .well) (k .linked)) ⌝ }
+// What is known without the check of a table that is well formed if the settings fit; whether they do was looked at before.
+pub fn trusted(fit: bool, table: &[u8]) -> Known
+    ensures { λ k. ⌜ ((s : Chosen) → fit ≡ settingsFit s → Sound s (now (table .entry)) → Knows s (now (table .entry)) (k .well) (k .linked)) ⌝ }
 {
     Known {
-        well: s.fit(),
+        well: fit,
         linked: linked_now(table),
     }
 }
@@ -98,7 +100,8 @@ pub fn known_call(
     if k.well {} else {
         return Answer::refusal(2);
     }
-    play(table, s, k.linked, e, octets, out)
+    let o = others_for(s, &*table, e);
+    play(table, s, k.linked, o, e, octets, out)
 }
 
 fn stop(k: Known) -> Passed

@@ -8,6 +8,7 @@ use crate::host::standing::row_standing;
 use crate::rules::others::Counts;
 use crate::rules::others::counted;
 use crate::rules::others::first_joined;
+use crate::rules::others::others;
 use crate::rules::others::sparse;
 use octets::row::address_in;
 use octets::row::blank_at;
@@ -15,6 +16,7 @@ use octets::row::blank_four;
 use octets::row::linkless_four;
 use octets::row::row_at;
 use peer::record::Record;
+use peer::refuse::Others;
 use peer::settings::Settings;
 ghost use mathlib.Core.Path.{_≡_};
 ghost use mathlib.Core.Bool.{true, false, not, _&&_, _||_};
@@ -25,17 +27,16 @@ ghost use Rattle.octets.specs.Row.{blankAt, rowAt};
 ghost use Rattle.peer.specs.Fit.{linksFit, recordFits};
 ghost use Rattle.peer.specs.Record.{associates, linkedOf};
 ghost use Rattle.peer.specs.Settings.{settingsFit};
-ghost use Rattle.table.specs.Fit.{apart, crowdOf, linksApart, wellFormed};
-ghost use Rattle.table.specs.Others.{associatedOf};
+ghost use Rattle.table.specs.Fit.{apart, linksApart, wellFormed};
+ghost use Rattle.table.specs.Others.{othersOf};
 ghost use Rattle.table.specs.Places.{addressesOf, allOf, linkAddressesOf};
 ghost use Rattle.table.specs.Rows.{linkedIn, numberedAt, recordOf, recordsOf, rowNumbered};
 
 // What the pass finds. Where all is not well formed, the rest says nothing.
 pub struct Seen {
     pub well: bool,
-    // The address of the first record in State 3 or 4, or 0.
-    pub associated: u64,
-    pub crowd: Counts,
+    // What a station's primitives ask of the whole table.
+    pub others: Others,
     // Whether any record has links.
     pub linked: bool,
 }
@@ -45,10 +46,9 @@ fn ill() -> Seen
 {
     Seen {
         well: false,
-        associated: 0,
-        crowd: Counts {
-            joined: 0,
-            associating: 0,
+        others: Others {
+            associated: 0,
+            busy: false,
         },
         linked: false,
     }
@@ -176,7 +176,7 @@ fn clear(s: Settings, table: &[u8], i: usize, marks: &[bool]) -> bool
 // them has its mark. The inner loop passes over the rows of which no more is to be asked: there the compiler makes one taken branch a row.
 pub(crate) fn survey(s: Settings, table: &[u8]) -> Seen
     requires { ⌜ length (now table) ≡ 1536 ⌝ }
-    ensures { λ r. ⌜ (r .well ≡ (numberedAt 32 0 (now (table .entry)) && wellFormed s (recordsOf (now (table .entry))))) × (r .well ≡ true → (r .associated ≡ associatedOf (recordsOf (now (table .entry)))) × (r .crowd ≡ crowdOf (recordsOf (now (table .entry)))) × (r .linked ≡ linkedIn (recordsOf (now (table .entry))))) ⌝ }
+    ensures { λ r. ⌜ (r .well ≡ (numberedAt 32 0 (now (table .entry)) && wellFormed s (recordsOf (now (table .entry))))) × (r .well ≡ true → (r .others ≡ othersOf s (recordsOf (now (table .entry)))) × (r .linked ≡ linkedIn (recordsOf (now (table .entry))))) ⌝ }
 {
     // As in `used`.
     if table.len() != 1536 {
@@ -232,8 +232,7 @@ pub(crate) fn survey(s: Settings, table: &[u8]) -> Seen
     let well = sparse(s, crowd);
     Seen {
         well: both(well, links_well(s, table, linked)),
-        associated,
-        crowd,
+        others: others(s, associated, crowd),
         linked,
     }
 }

@@ -1,16 +1,17 @@
 // Why an event came to what it did, over a table of 1536 octets as a host lends it. Nothing is changed.
 use crate::host::link::may_link;
+use crate::host::others::others_for;
 use crate::host::rows::find;
 use crate::host::rows::peer_at;
 use crate::host::rows::vacancy;
+use crate::host::run::Known;
+use crate::host::run::checked;
 use crate::host::seek::find_link;
 use crate::host::seek::seek;
-use crate::host::survey::survey;
 use crate::records::lent::room;
 use crate::rules::event::Event;
 use crate::rules::link::count_in;
 use crate::rules::link::device_in;
-use crate::rules::others::others;
 use crate::rules::read::Reading;
 use crate::rules::read::read;
 use crate::rules::why::Reason;
@@ -24,10 +25,15 @@ use peer::refuse::Others;
 use peer::settings::Settings;
 use peer::settings::associates;
 ghost use mathlib.Core.Path.{_≡_};
+ghost use mathlib.Core.Bool.{true};
 ghost use lib.ListN.{length};
+ghost use Prim.Native.Nat.{ℕ, _≤_};
+ghost use Rattle.table.specs.Lent.{roomOf};
 ghost use Rattle.table.specs.Others.{othersOf};
 ghost use Rattle.table.specs.Places.{addressesOf};
 ghost use Rattle.table.specs.Rows.{linkedIn, recordsOf};
+ghost use Rattle.table.specs.Ruled.{asking};
+ghost use Rattle.table.specs.Run.{Knows};
 ghost use Rattle.table.specs.Why.{hostWhy, whyAsked, whyAt, whyLinked, whyRead};
 
 // A frame that was read; it has `long` octets.
@@ -102,7 +108,7 @@ fn why_linked(s: Settings, table: &[u8], linked: bool, named: &[u8]) -> Why
 // Once refusals 1 and 2 do not apply.
 fn why_at(s: Settings, table: &[u8], linked: bool, o: Others, e: Event, frame: &[u8]) -> Why
     requires { ⌜ length (now table) ≡ 1536 ⌝ }
-    ensures { λ w. ⌜ (linked ≡ linkedIn (recordsOf (now (table .entry))) → o ≡ othersOf s (recordsOf (now (table .entry))) → w ≡ whyAt s (recordsOf (now (table .entry))) (addressesOf (recordsOf (now (table .entry)))) e (now (frame .entry))) ⌝ }
+    ensures { λ w. ⌜ (linked ≡ linkedIn (recordsOf (now (table .entry))) → (asking e ≡ true → o ≡ othersOf s (recordsOf (now (table .entry)))) → w ≡ whyAt s (recordsOf (now (table .entry))) (addressesOf (recordsOf (now (table .entry)))) e (now (frame .entry))) ⌝ }
 {
     match e {
         Event::Frame => why_read(
@@ -122,20 +128,27 @@ fn why_at(s: Settings, table: &[u8], linked: bool, o: Others, e: Event, frame: &
     }
 }
 
-// Why an event, lent a buffer of `lent` octets, comes to what it does.
+// Why an event comes to what it does, by what is known of settings and table, with room in the buffer.
+pub fn known_why(table: &[u8], s: Settings, k: Known, e: Event, frame: &[u8]) -> Why
+    ensures { λ w. ⌜ ((n : ℕ) → Knows s (now (table .entry)) (k .well) (k .linked) → roomOf e ≤ n → w ≡ hostWhy (now (table .entry)) s e (now (frame .entry)) n) ⌝ }
+{
+    if k.well {} else {
+        return Why::plain(Reason::Refusal(2));
+    }
+    if table.len() != 1536 {
+        return Why::plain(Reason::Refusal(2));
+    }
+    let o = others_for(s, table, e);
+    why_at(s, table, k.linked, o, e, frame)
+}
+
+// The same of an event that is lent a buffer of `lent` octets; settings and table are checked.
 pub fn why(table: &[u8], s: Settings, e: Event, frame: &[u8], lent: usize) -> Why
     ensures { λ w. ⌜ w ≡ hostWhy (now (table .entry)) s e (now (frame .entry)) lent ⌝ }
 {
     if lent < room(e) {
         return Why::plain(Reason::Refusal(1));
     }
-    if table.len() != 1536 {
-        return Why::plain(Reason::Refusal(2));
-    }
-    let v = survey(s, table);
-    if v.well {} else {
-        return Why::plain(Reason::Refusal(2));
-    }
-    let o = others(s, v.associated, v.crowd);
-    why_at(s, table, v.linked, o, e, frame)
+    let k = checked(s, table);
+    known_why(table, s, k, e, frame)
 }

@@ -60,7 +60,8 @@ returns-4 c =
     let w = sym (c .before .before .before .before .before .before .before .before .survey .ensures .0) ∙ c .before .before .before .before .before .before .before .if3 .taken in
     let i = rows-table (a .s) xs (c .before .before .before .before .before .before .before .before .before .before .if2 .left) w in
     let f = and-right (numberedAt 32 0 xs) (wellFormed (a .s) (recordsOf xs)) w in
-    plays-gives xs (a .s) (a .e) (now (a .octets)) (now (a .out)) i f _ _ _ (c .before .before .before .before .play .ensures i (c .before .before .before .before .before .before .before .before .survey .ensures .1 (c .before .before .before .before .before .before .before .if3 .taken) .2))
+    let v = c .before .before .before .before .before .before .before .before .survey .ensures .1 (c .before .before .before .before .before .before .before .if3 .taken) in
+    plays-gives xs (a .s) (a .e) (now (a .octets)) (now (a .out)) i f _ _ _ (c .before .before .before .before .play .ensures i (v .1) (λ y. v .0))
 
 pub call-spec : {M : Type 1} → statement M
 call-spec =

@@ -1,6 +1,7 @@
 -- `table::host::play::change` meets its contract: each arm by its case.
 -- Assumes nothing.
-use mathlib.Core.Path.{_∙_}
+use mathlib.Core.Path.{_∙_, ap}
+use Rattle.table.specs.Ruled.{asking}
 use borrow.Author.Needs.{needs}
 use Rattle.table.proofs.host.play.change.Statement.{statement}
 use Rattle.table.proofs.host.play.change.Tie as tie
@@ -20,9 +21,6 @@ heard-at-requires c κs = search needs
 enum-known-e : tie.Need-enum-known-e
 enum-known-e c = search needs
 
-others-in-requires : tie.Need-others-in-requires
-others-in-requires c κs = search needs
-
 asked-in-requires : tie.Need-asked-in-requires
 asked-in-requires c κs = search needs
 
@@ -39,16 +37,16 @@ refused-requires : tie.Need-refused-requires
 refused-requires c κs = search needs
 
 returns : tie.Need-returns
-returns c = λ q. rw (c .before .before .before .enum-told .given .1) (c .heard-at .ensures q ∙ rw (c .before .read .ensures, c .before .before .associates .ensures))
+returns c = λ q h. rw (c .before .before .before .enum-told .given .1) (c .heard-at .ensures q ∙ rw (c .before .read .ensures, c .before .before .associates .ensures))
 
 returns-2 : tie.Need-returns-2
-returns-2 c = λ q. rw (c .before .before .before .e .given .1) (c .asked-in .ensures q (c .before .others-in .ensures))
+returns-2 c = λ q h. rw (c .before .before .e .given .1) (c .asked-in .ensures q (h (ap asking (c .before .before .e .given .1))))
 
 returns-3 : tie.Need-returns-3
-returns-3 c = λ q. rw (c .before .enum-told2 .given .1) (c .named-at .ensures q)
+returns-3 c = λ q h. rw (c .before .enum-told2 .given .1) (c .named-at .ensures q)
 
 returns-4 : tie.Need-returns-4
-returns-4 c = λ q. rw (c .before .enum-told3 .given .1) (c .refused .ensures _)
+returns-4 c = λ q h. rw (c .before .enum-told3 .given .1) (c .refused .ensures _)
 
 pub change-spec : {M : Type 1} → statement M
 change-spec =
@@ -59,7 +57,6 @@ change-spec =
     read-requires
     heard-at-requires
     enum-known-e
-    others-in-requires
     asked-in-requires
     enum-told-2
     named-at-requires

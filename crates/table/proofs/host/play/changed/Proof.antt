@@ -24,11 +24,11 @@ same-length-2 : tie.Need-same-length-2
 same-length-2 c = search needs
 
 returns : tie.Need-returns
-returns c = λ i q z r.
+returns c = λ i q h z r.
     let a = c .before .before .before .before .before .before .before .before .before .before .before .before .before .args in
     let t = recordsOf (now (a .table)) in
     let d = c .before .before .before .before .before .before .before .before .change .result in
-    let m = c .before .before .before .before .before .before .before .before .change .ensures q in
+    let m = c .before .before .before .before .before .before .before .before .change .ensures q h in
     let p = plays-change (now (a .table)) (a .s) (a .e) (now (a .octets)) (now (a .out)) r z d m in
     (c .before .before .before .before .made .ensures .0 ∙ p .0, c .before .before .before .before .made .ensures .2 i (λ y. change-unnamed (a .s) t (a .e) (now (a .octets)) d m (rw (c .before .before .before .before .before .before .names-links .ensures) at y)) ∙ p .1, c .before .before .before .before .made .ensures .1 ∙ p .2)
 

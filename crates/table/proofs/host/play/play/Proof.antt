@@ -16,7 +16,7 @@ refusal-requires : tie.Need-refusal-requires
 refusal-requires c κs = search needs
 
 returns : tie.Need-returns
-returns c = λ i q.
+returns c = λ i q h.
     let a = c .before .before .before .before .before .before .args in
     rw (c .refusal .ensures) (plays-short (now (a .table)) (a .s) (a .e) (now (a .octets)) (now (a .out)) (λ k. c .before .before .before .before .before .slice-known .given k .fits) i (rw (c .before .before .room .ensures) at (c .before .if1 .taken)))
 
@@ -24,7 +24,7 @@ refusal-requires-2 : tie.Need-refusal-requires-2
 refusal-requires-2 c κs = search needs
 
 returns-2 : tie.Need-returns-2
-returns-2 c = λ i q. absurd (c .before .if2 .taken (table-long (now (c .before .before .before .before .before .before .before .args .table)) i))
+returns-2 c = λ i q h. absurd (c .before .if2 .taken (table-long (now (c .before .before .before .before .before .before .before .args .table)) i))
 
 ticks-requires : tie.Need-ticks-requires
 ticks-requires c κs = search needs
@@ -44,7 +44,7 @@ same-length-2 : tie.Need-same-length-2
 same-length-2 c = search needs
 
 returns-3 : tie.Need-returns-3
-returns-3 c = λ i q.
+returns-3 c = λ i q h.
     let a = c .before .before .before .before .before .before .before .before .before .before .before .before .before .before .before .before .args in
     let p = plays-tick (now (a .table)) (a .s) (a .e) (now (a .octets)) (now (a .out)) (rw (c .before .before .before .before .before .before .before .before .before .before .before .before .room .ensures) at (c .before .before .before .before .before .before .before .before .before .before .before .if1 .left)) (sym (c .before .before .before .before .before .before .before .before .before .ticks .ensures) ∙ c .before .before .before .before .before .before .before .before .if3 .taken) _ (c .before .before .before .before .before .before .step-in .ensures) in
     (c .before .before .before .before .ticked .ensures .0 ∙ p .0, c .before .before .before .before .ticked .ensures .1 i ∙ p .1, c .before .before .before .before .ticked .ensures .2 ∙ p .2)
@@ -59,7 +59,7 @@ same-length-4 : tie.Need-same-length-4
 same-length-4 c = search needs
 
 returns-4 : tie.Need-returns-4
-returns-4 c = λ i q. c .before .before .before .before .changed .ensures i q (sym (c .before .before .before .before .before .before .before .before .ticks .ensures) ∙ c .before .before .before .before .before .before .before .if3 .left) (rw (c .before .before .before .before .before .before .before .before .before .before .before .room .ensures) at (c .before .before .before .before .before .before .before .before .before .before .if1 .left))
+returns-4 c = λ i q h. c .before .before .before .before .changed .ensures i q h (sym (c .before .before .before .before .before .before .before .before .ticks .ensures) ∙ c .before .before .before .before .before .before .before .if3 .left) (rw (c .before .before .before .before .before .before .before .before .before .before .before .room .ensures) at (c .before .before .before .before .before .before .before .before .before .before .if1 .left))
 
 pub play-spec : {M : Type 1} → statement M
 play-spec =

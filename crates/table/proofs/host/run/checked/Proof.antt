@@ -12,7 +12,7 @@ survey-requires : tie.Need-survey-requires
 survey-requires c κs = search needs
 
 returns-2 : tie.Need-returns-2
-returns-2 c = known-checked _ _ (c .before .if1 .left) _ _ (c .survey .ensures .0) (λ h. c .survey .ensures .1 h .2)
+returns-2 c = known-checked _ _ (c .before .if1 .left) _ _ (c .survey .ensures .0) (λ h. c .survey .ensures .1 h .1)
 
 pub checked-spec : {M : Type 1} → statement M
 checked-spec = tie.close (tie.spec returns survey-requires returns-2)

@@ -177,8 +177,13 @@ links-well-requires c κs = (c .before .before .before .loop .inv .2 .long, c .b
 both-requires : tie.Need-both-requires Inv-loop2 μ-loop2 Inv-loop μ-loop
 both-requires c κs = tt
 
+others-requires : tie.Need-others-requires Inv-loop2 μ-loop2 Inv-loop μ-loop
+others-requires c κs = search needs
+
 returns-6 : tie.Need-returns-6 Inv-loop2 μ-loop2 Inv-loop μ-loop
-returns-6 c = surveyed-all _ _ _ _ _ _ _ (c .before .before .before .before .before .loop .inv .2) (c .before .before .before .before .loop-test .left) (c .before .before .before .before .before .loop .inv .0) _ (c .before .before .before .any-linked .ensures) _ (c .before .before .sparse .ensures) _ (c .before .links-well .ensures) _ (c .both .ensures)
+returns-6 c =
+    let f = surveyed-all _ _ _ _ _ _ _ (c .before .before .before .before .before .before .loop .inv .2) (c .before .before .before .before .before .loop-test .left) (c .before .before .before .before .before .before .loop .inv .0) _ (c .before .before .before .before .any-linked .ensures) _ (c .before .before .before .sparse .ensures) _ (c .before .before .links-well .ensures) _ (c .before .both .ensures) in
+    (f .0, λ t. (c .others .ensures _ (f .1 t .0) (f .1 t .1), f .1 t .2))
 
 pub survey-spec : {M : Type 1} → statement M
 survey-spec =
@@ -236,4 +241,5 @@ survey-spec =
     sparse-requires
     links-well-requires
     both-requires
+    others-requires
     returns-6)

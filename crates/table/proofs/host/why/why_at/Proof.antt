@@ -1,5 +1,7 @@
 -- `table::host::why::why_at` meets its contract: each event by its own list.
 -- Assumes nothing.
+use mathlib.Core.Path.{ap}
+use Rattle.table.specs.Ruled.{asking}
 use borrow.Author.Needs.{needs}
 use Rattle.table.proofs.host.why.why_at.Statement.{statement}
 use Rattle.table.proofs.host.why.why_at.Tie as tie
@@ -38,7 +40,7 @@ returns : tie.Need-returns
 returns c = λ l o. rw (c .before .before .before .enum-told .given .1, ← c .before .before .associates .ensures, ← c .before .read .ensures) (c .why-read .ensures l)
 
 returns-2 : tie.Need-returns-2
-returns-2 c = λ l o. rw (c .before .before .e .given .1) (c .why-asked .ensures l o)
+returns-2 c = λ l o. rw (c .before .before .e .given .1) (c .why-asked .ensures l (o (ap asking (c .before .before .e .given .1))))
 
 returns-3 : tie.Need-returns-3
 returns-3 c = λ l o. rw (c .before .enum-told2 .given .1) (c .why-linked .ensures l)

@@ -1,4 +1,4 @@
--- `table::host::play::others_in` meets its contract: what is found in the places passed is all there is at the end.
+-- `table::host::others::others_in` meets its contract: what is found in the places passed is all there is at the end.
 -- Assumes nothing.
 use Rattle.table.proofs.Octets.RowLaws.{blank-free, length-records}
 use Rattle.table.proofs.Passes.Tallies.{Tallied, tallied-all, tallied-free, tallied-more, tallied-none}
@@ -8,8 +8,8 @@ use borrow.Author.Needs.{needs}
 use mathlib.Core.Path.{_∙_, refl, sym}
 use native.Mathlib.Omega.{arith}
 use Rattle.octets.proofs.Branch.{tests}
-use Rattle.table.proofs.host.play.others_in.Statement.{statement}
-use Rattle.table.proofs.host.play.others_in.Tie as tie
+use Rattle.table.proofs.host.others.others_in.Statement.{statement}
+use Rattle.table.proofs.host.others.others_in.Tie as tie
 
 abbrev Inv-loop : tie.InvT-loop
 Inv-loop s table associated₀ joined₀ associating₀ i₀ associated joined associating i = Tallied (recordsOf table) associated joined associating i
@@ -20,9 +20,12 @@ abbrev μ-loop : tie.MeasureT-loop
 answers-requires : tie.Need-answers-requires Inv-loop μ-loop
 answers-requires c κs = tt
 
+nobody-requires : tie.Need-nobody-requires Inv-loop μ-loop
+nobody-requires c κs = search needs
+
 returns : tie.Need-returns Inv-loop μ-loop
 unfolding othersOf
-returns c = search (tests, c .if1 .taken, ← c .before .answers .ensures)
+returns c = c .nobody .ensures ∙ search (tests, c .before .if1 .taken, ← c .before .before .answers .ensures)
 
 loop-holds : tie.Need-loop-holds Inv-loop μ-loop
 loop-holds c = tallied-none _ (length-records 32 0 _) _ refl
@@ -79,6 +82,7 @@ others-in-spec =
     Inv-loop
     μ-loop
     answers-requires
+    nobody-requires
     returns
     loop-holds
     sub-i
