@@ -36,7 +36,7 @@ use Rattle.bench.specs.declared.run.Run.{Run}
 use Rattle.bench.proofs.Ahead.{ahead-behind, ahead-length, ahead-more, behind-is, left-is, more-inside}
 use Rattle.bench.proofs.MoreOctets.{cut-short, taken-first, taken-next}
 use Rattle.table.proofs.Octets.InputLaws.{record-whole}
-use Rattle.table.proofs.Octets.RunLaws.{all-octets, sound-later}
+use Rattle.table.proofs.Octets.KnownLaws.{all-octets, sound-later}
 use Rattle.table.proofs.Theorems.Well.{of-well}
 use Rattle.table.specs.Fit.{aloneIn, wellFormed}
 use Rattle.table.specs.Places.{allTails, countOf, linkAddressesOf}

@@ -13,6 +13,7 @@ pub mod RuledLaws
 pub mod BoundaryLaws
 pub mod WhyLaws
 pub mod CallsInRow
+pub mod KnownLaws
 pub mod RunLaws
 pub mod JoinedCalls
 pub mod JoinedCallsExamples

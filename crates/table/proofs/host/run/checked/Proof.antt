@@ -1,6 +1,6 @@
 -- `table::host::run::checked` meets its contract: by its test and what the survey ensures.
 -- Assumes nothing.
-use Rattle.table.proofs.Octets.RunLaws.{known-checked, known-none}
+use Rattle.table.proofs.Octets.KnownLaws.{known-checked, known-none}
 use borrow.Author.Needs.{needs}
 use Rattle.table.proofs.host.run.checked.Statement.{statement}
 use Rattle.table.proofs.host.run.checked.Tie as tie

@@ -1,6 +1,6 @@
 -- `table::host::run::known_after` meets its contract: no event but one that names links changes any, and each keeps settings and table well formed.
 -- Assumes nothing.
-use Rattle.table.proofs.Octets.RunLaws.{known-named, known-same}
+use Rattle.table.proofs.Octets.KnownLaws.{known-named, known-same}
 use borrow.Author.Needs.{needs}
 use Rattle.table.proofs.host.run.known_after.Statement.{statement}
 use Rattle.table.proofs.host.run.known_after.Tie as tie

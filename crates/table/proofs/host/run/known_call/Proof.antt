@@ -1,6 +1,6 @@
 -- `table::host::run::known_call` meets its contract: refused where all is not well formed, else played.
 -- Assumes nothing.
-use Rattle.table.proofs.Octets.RunLaws.{call-ill, known-sure}
+use Rattle.table.proofs.Octets.KnownLaws.{call-ill, known-sure}
 use Rattle.table.proofs.Octets.RowLaws.{table-long}
 use Rattle.table.proofs.Octets.RuledLaws.{plays-gives}
 use denote.Ref.{now}

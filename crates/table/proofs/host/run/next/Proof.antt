@@ -2,7 +2,7 @@
 -- Assumes nothing.
 use borrow.Author.Tests.{le-ltb, lt-ltb}
 use denote.Ref.{now}
-use Rattle.table.proofs.Octets.RunLaws.{all-body, all-octets}
+use Rattle.table.proofs.Octets.KnownLaws.{all-body, all-octets}
 use borrow.Author.Needs.{needs}
 use Rattle.table.proofs.host.run.next.Statement.{statement}
 use Rattle.table.proofs.host.run.next.Tie as tie

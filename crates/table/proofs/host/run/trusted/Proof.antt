@@ -1,6 +1,6 @@
 -- `table::host::run::trusted` meets its contract: what is left to know is whether any record has links.
 -- Assumes nothing.
-use Rattle.table.proofs.Octets.RunLaws.{known-sound}
+use Rattle.table.proofs.Octets.KnownLaws.{known-sound}
 use borrow.Author.Needs.{needs}
 use Rattle.table.proofs.host.run.trusted.Statement.{statement}
 use Rattle.table.proofs.host.run.trusted.Tie as tie

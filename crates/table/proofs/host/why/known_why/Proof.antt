@@ -4,7 +4,7 @@ use denote.Ref.{now}
 use mathlib.Core.Path.{_∙_, sym}
 use Rattle.octets.proofs.Branch.{and-right}
 use Rattle.table.proofs.Octets.RowLaws.{table-long}
-use Rattle.table.proofs.Octets.RunLaws.{known-sure}
+use Rattle.table.proofs.Octets.KnownLaws.{known-sure}
 use Rattle.table.proofs.Octets.WhyLaws.{known-ill, known-well}
 use borrow.Author.Needs.{needs}
 use Rattle.table.proofs.host.why.known_why.Statement.{statement}
