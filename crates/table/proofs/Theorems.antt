@@ -14,6 +14,7 @@ pub mod Seated
 pub mod LinksStay
 pub mod LinkKeeps
 pub mod StepKeeps
+pub mod RuledRecords
 pub mod Links
 pub mod LinkFrames
 pub mod DiscardLeaves

@@ -4,4 +4,7 @@ pub mod Guards
 pub mod LocalArray
 pub mod Shared
 pub mod LentLaws
+pub mod LentCode
+pub mod LentContracts
+pub mod LentWalk
 pub mod LinkLists

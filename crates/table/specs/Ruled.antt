@@ -14,12 +14,13 @@ use Rattle.peer.specs.declared.record.Record.{Record}
 use Rattle.peer.specs.declared.settings.Settings.{Settings}
 use Rattle.table.specs.Answer.{countAnswer, refusalAnswer, refusedOf, saidIn, steppedOf}
 use Rattle.table.specs.Ask.{askedAt}
-use Rattle.table.specs.Lent.{roomOf}
+use Rattle.table.specs.Lent.{malformedOf, roomOf}
 use Rattle.table.specs.Link.{linkedAt}
 use Rattle.table.specs.Pass.{clockedOf, reportsOf}
 use Rattle.table.specs.Places.{addressesOf, onFound}
 use Rattle.table.specs.Read.{readOf}
 use Rattle.table.specs.Receive.{heardAt}
+use Rattle.table.specs.declared.rules.answer.Answer.{Answer}
 use Rattle.table.specs.declared.rules.answer.Met.{Met}
 use Rattle.table.specs.declared.rules.answer.Stepped.{Stepped}
 use Rattle.table.specs.declared.rules.seat.Found.{Found}
@@ -92,3 +93,13 @@ ruledOf s t e xs n = pick (ltb n (roomOf e)) (record { table = t; answer = refus
 
 unfoldable pub ruledIn : Settings → List Record → Event → List ℕ → List ℕ → List ℕ
 ruledIn s t e xs l = pick (ltb (length l) (roomOf e)) l (roomyIn s t e xs l)
+
+-- The same over the records t lent, as Lent.antt has the step: the answer, the records after the event, and the buffer.
+abbrev pub ruledLentAnswer : List Record → Settings → Event → List ℕ → List ℕ → Answer
+ruledLentAnswer t s e xs l = pick (eqb (length t) 32) (ruledOf s t e xs (length l) .answer) (malformedOf e (length l))
+
+abbrev pub ruledLentTable : List Record → Settings → Event → List ℕ → List ℕ → List Record
+ruledLentTable t s e xs l = pick (eqb (length t) 32) (ruledOf s t e xs (length l) .table) t
+
+abbrev pub ruledLentIn : List Record → Settings → Event → List ℕ → List ℕ → List ℕ
+ruledLentIn t s e xs l = pick (eqb (length t) 32) (ruledIn s t e xs l) l

@@ -6,6 +6,7 @@ pub mod lent;
 pub mod link;
 pub mod pass;
 pub mod places;
+pub mod play;
 pub mod receive;
 pub mod seat;
 pub mod step;

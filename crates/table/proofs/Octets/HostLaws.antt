@@ -44,6 +44,14 @@ use Rattle.table.proofs.Theorems.RefusedExactly.{refusal-first}
 use Rattle.table.proofs.Theorems.RefusedKeeps.{refused-keeps}
 use Rattle.table.proofs.Octets.RowLaws.{octets-of-records}
 
+-- with room, settings or a table that are not well formed are refusal 2
+pub refused-2 : (s : Settings) (t : List Record) → wellFormed s t ≡ false → (e : Event) (fs : List ℕ) (n : ℕ) → roomOf e ≤ n → firstOf (refusalsOf s t e fs n) ≡ 2
+unfolding firstOf
+refused-2 s t w event.Frame fs n r = rw (le-ltb _ _ r, w)
+refused-2 s t w (event.Ask q a c) fs n r = rw (le-ltb _ _ r, w)
+refused-2 s t w event.Links fs n r = rw (le-ltb _ _ r, w)
+refused-2 s t w (event.Clock d) fs n r = rw (le-ltb _ _ r, w)
+
 module _ (xs : List ℕ) (s : Settings) (e : Event) (fs l : List ℕ) where
   abbrev t : List Record
   t = recordsOf xs
@@ -79,16 +87,10 @@ module _ (xs : List ℕ) (s : Settings) (e : Event) (fs l : List ℕ) where
 
     -- settings or a table that are not well formed
     pub ill-formed : length xs ≡ 1536 → roomOf e ≤ length l → (numberedAt 32 0 xs && wellFormed s t) ≡ false → Gives (refusalAnswer 2) xs l
-    unfolding isTable firstOf
+    unfolding isTable
     ill-formed n r w = by-bool (numberedAt 32 0 xs)
-        (λ m. refuses (rw (eq-eqb (length xs) 1536 n, m)) 2 (second e r (rw m at w)) (λ z. omega (arith, z)))
+        (λ m. refuses (rw (eq-eqb (length xs) 1536 n, m)) 2 (refused-2 s t (rw m at w) e fs (length l) r) (λ z. omega (arith, z)))
         (λ m. no-table (rw (eq-eqb (length xs) 1536 n, m)) r)
-      where
-        second : (e : Event) → roomOf e ≤ length l → wellFormed s t ≡ false → firstOf (refusalsOf s t e fs (length l)) ≡ 2
-        second event.Frame r w = rw (le-ltb _ _ r, w)
-        second (event.Ask q a c) r w = rw (le-ltb _ _ r, w)
-        second event.Links r w = rw (le-ltb _ _ r, w)
-        second (event.Clock d) r w = rw (le-ltb _ _ r, w)
 
   -- an event that makes a change
   pub acts : isTable xs ≡ true → (c : Change) (m : Met) → metOf t c ≡ m → stepOf s t e fs (length l) ≡ steppedOf m (length l) → stepIn s t e fs l ≡ saidIn (m .reply) l

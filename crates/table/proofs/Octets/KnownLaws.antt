@@ -77,13 +77,13 @@ module _ (s : Settings) (xs : List ℕ) where
   known-sure k h = both (isTable xs) (wellFormed s (recordsOf xs)) (sym (k .told) ∙ h)
 
 -- settings that do not fit
-ill : (s : Settings) (t : List Record) → settingsFit s ≡ false → wellFormed s t ≡ false
+pub unfit-ill : (s : Settings) (t : List Record) → settingsFit s ≡ false → wellFormed s t ≡ false
 unfolding wellFormed
-ill s t f = rw f
+unfit-ill s t f = rw f
 
 pub known-sound : (s : Settings) (xs : List ℕ) (well linked : Bool) → Sound s xs → well ≡ settingsFit s → (length xs ≡ 1536 → linked ≡ linkedIn (recordsOf xs)) → Knows s xs well linked
 known-sound s xs well linked h e l = record {
-  told = e ∙ by-bool (settingsFit s) (λ f. rw (f, h .table, h .well f)) (λ f. rw (f, h .table, ill s (recordsOf xs) f));
+  told = e ∙ by-bool (settingsFit s) (λ f. rw (f, h .table, h .well f)) (λ f. rw (f, h .table, unfit-ill s (recordsOf xs) f));
   links = λ w. l (table-long xs (h .table));
 }
 
@@ -128,7 +128,7 @@ module _ (xs : List ℕ) (s : Settings) (e : Event) (fs l : List ℕ) where
       (λ g.
       let n = left f (h .table) (h .well g) in
       record { table = n .table; well = λ w. n .well })
-      (λ g. record { table = rw (same (each-octet xs o) (rw (h .table, ill s (recordsOf xs) g))) (h .table); well = λ w. clash w g })
+      (λ g. record { table = rw (same (each-octet xs o) (rw (h .table, unfit-ill s (recordsOf xs) g))) (h .table); well = λ w. clash w g })
 
   known-later : allOctets xs ≡ true → allOctets fs ≡ true → (well linked later : Bool) → Knows s xs well linked → (well ≡ true → later ≡ linkedIn (recordsOf after)) → Knows s after well later
   known-later o f well linked later k links = by-bool well

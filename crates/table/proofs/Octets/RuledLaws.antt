@@ -58,25 +58,25 @@ module _ (s : Settings) (t : List Record) (w : wellFormed s t ≡ true) where
 -- ---- an event that is no clock step makes a change
 
 module _ (s : Settings) (t : List Record) where
-  roomy-change : (e : Event) (fs : List ℕ) (n : ℕ) → ticking e ≡ false → roomyOf s t e fs n ≡ steppedOf (changeOf s t e fs) n
+  pub roomy-change : (e : Event) (fs : List ℕ) (n : ℕ) → ticking e ≡ false → roomyOf s t e fs n ≡ steppedOf (changeOf s t e fs) n
   roomy-change event.Frame fs n z = refl
   roomy-change (event.Ask q a c) fs n z = refl
   roomy-change event.Links fs n z = refl
   roomy-change (event.Clock d) fs n z = clash refl z
 
-  roomy-said : (e : Event) (fs l : List ℕ) → ticking e ≡ false → roomyIn s t e fs l ≡ saidIn (changeOf s t e fs .reply) l
+  pub roomy-said : (e : Event) (fs l : List ℕ) → ticking e ≡ false → roomyIn s t e fs l ≡ saidIn (changeOf s t e fs .reply) l
   roomy-said event.Frame fs l z = refl
   roomy-said (event.Ask q a c) fs l z = refl
   roomy-said event.Links fs l z = refl
   roomy-said (event.Clock d) fs l z = clash refl z
 
-  roomy-tick : (e : Event) (fs : List ℕ) (n : ℕ) → ticking e ≡ true → roomyOf s t e fs n ≡ tickedOf s t (tuOf e)
+  pub roomy-tick : (e : Event) (fs : List ℕ) (n : ℕ) → ticking e ≡ true → roomyOf s t e fs n ≡ tickedOf s t (tuOf e)
   roomy-tick event.Frame fs n z = clash z refl
   roomy-tick (event.Ask q a c) fs n z = clash z refl
   roomy-tick event.Links fs n z = clash z refl
   roomy-tick (event.Clock d) fs n z = refl
 
-  roomy-reports : (e : Event) (fs l : List ℕ) → ticking e ≡ true → roomyIn s t e fs l ≡ tickedIn s t (tuOf e) l
+  pub roomy-reports : (e : Event) (fs l : List ℕ) → ticking e ≡ true → roomyIn s t e fs l ≡ tickedIn s t (tuOf e) l
   roomy-reports event.Frame fs l z = clash z refl
   roomy-reports (event.Ask q a c) fs l z = clash z refl
   roomy-reports event.Links fs l z = clash z refl

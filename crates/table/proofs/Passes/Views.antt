@@ -30,19 +30,43 @@ pub well-of : (s : Settings) (t : List Record) (v : View) → Sees s t v → (b 
 unfolding wellFormed sparseOf
 well-of s t v h b e = e ∙ rw (h .0, h .1, h .3)
 
+-- The addresses of the places from i on are written down.
+pub record Named (t : List Record) (addresses : List ℕ) (i : ℕ) : Type 0 where
+  pub wide : length addresses ≡ 32
+  pub same : drop i addresses ≡ drop i (addressesOf t)
+
+pub named-none : (t : List Record) (addresses : List ℕ) → length t ≡ 32 → length addresses ≡ 32 → Named t addresses 32
+named-none t addresses h k =
+    record {
+      wide = k;
+      same = left-end (λ l. l) addresses 32 (omega (arith, k)) ∙ sym (left-end (λ l. l) (addressesOf t) 32 (rw (length-map t (λ p. p .address)) (omega (arith, h))));
+    }
+
+-- one place more: p its record
+pub named-more : (t : List Record) (addresses : List ℕ) (i : ℕ) → length t ≡ 32 → i ≤ 32 → Named t addresses i → 0 < i → (p : Record) → p ≡ getD t (i - 1) freeOf
+    → Named t (set addresses (i - 1) (p .address)) (i - 1)
+named-more t addresses i long low v z p e =
+    let next : i - 1 + 1 ≡ i = omega arith in
+    let inside : i - 1 < length t = omega (arith, long, low) in
+    let inside′ : i - 1 < length addresses = omega (arith, v .wide, low) in
+    let behind : drop i (set addresses (i - 1) (p .address)) ≡ drop i addresses = drop-set-lt i addresses (i - 1) (p .address) (omega arith) in
+    let mine : drop (i - 1) (set addresses (i - 1) (p .address)) ≡ p .address ∷ drop i addresses =
+    left-step (λ l. l) (set addresses (i - 1) (p .address)) (i - 1) 0 (rw (length-set addresses (i - 1) (p .address)) inside′) ∙ rw (next, behind, getD-set-same addresses (i - 1) (p .address) 0 inside′) in
+    let theirs : drop (i - 1) (addressesOf t) ≡ p .address ∷ drop i (addressesOf t) =
+    left-step (λ l. l) (addressesOf t) (i - 1) (freeOf .address) (rw (length-map t (λ p. p .address)) inside) ∙ rw (next, List·getD-map (λ (p : Record). p .address) t (i - 1) freeOf, ← e) in
+    record { wide = length-set addresses (i - 1) (p .address) ∙ v .wide; same = mine ∙ rw (v .same) (sym theirs) }
+
 -- What a pass has found where the places from i on are passed.
 pub record Viewed (s : Settings) (t : List Record) (addresses : List ℕ) (fit : Bool) (associated joined associating i : ℕ) : Type 0 where
   pub tally : Tallied t associated joined associating i
-  pub wide : length addresses ≡ 32
-  pub named : drop i addresses ≡ drop i (addressesOf t)
+  pub named : Named t addresses i
   pub fits : fit ≡ allOf (placeFits s) (drop i t)
 
 pub viewed-none : (s : Settings) (t : List Record) (addresses : List ℕ) → length t ≡ 32 → length addresses ≡ 32 → Viewed s t addresses true 0 0 0 32
 viewed-none s t addresses h k =
     record {
       tally = tallied-none t h 32 refl;
-      wide = k;
-      named = left-end (λ l. l) addresses 32 (omega (arith, k)) ∙ sym (left-end (λ l. l) (addressesOf t) 32 (rw (length-map t (λ p. p .address)) (omega (arith, h))));
+      named = named-none t addresses h k;
       fits = sym (all-end (placeFits s) t 32 (omega (arith, h)));
     }
 
@@ -54,16 +78,9 @@ module _ (s : Settings) (t : List Record) (addresses : List ℕ) (fit : Bool) (a
   viewed-more z p e fit′ ef associated′ ea joined′ ej associating′ ek =
       let next : i - 1 + 1 ≡ i = omega arith in
       let inside : i - 1 < length t = omega (arith, v .tally .long, v .tally .low) in
-      let inside′ : i - 1 < length addresses = omega (arith, v .wide, v .tally .low) in
-      let behind : drop i (set addresses (i - 1) (p .address)) ≡ drop i addresses = drop-set-lt i addresses (i - 1) (p .address) (omega arith) in
-      let mine : drop (i - 1) (set addresses (i - 1) (p .address)) ≡ p .address ∷ drop i addresses =
-      left-step (λ l. l) (set addresses (i - 1) (p .address)) (i - 1) 0 (rw (length-set addresses (i - 1) (p .address)) inside′) ∙ rw (next, behind, getD-set-same addresses (i - 1) (p .address) 0 inside′) in
-      let theirs : drop (i - 1) (addressesOf t) ≡ p .address ∷ drop i (addressesOf t) =
-      left-step (λ l. l) (addressesOf t) (i - 1) (freeOf .address) (rw (length-map t (λ p. p .address)) inside) ∙ rw (next, List·getD-map (λ (p : Record). p .address) t (i - 1) freeOf, ← e) in
       record {
         tally = tallied-more t associated joined associating i (v .tally) z p e associated′ ea joined′ ej associating′ ek;
-        wide = length-set addresses (i - 1) (p .address) ∙ v .wide;
-        named = mine ∙ rw (v .named) (sym theirs);
+        named = named-more t addresses i (v .tally .long) (v .tally .low) (v .named) z p e;
         fits = ef ∙ rw (v .fits) (sym (all-step (placeFits s) t (i - 1) freeOf inside ∙ rw (← e, next)));
       }
 
@@ -72,4 +89,4 @@ module _ (s : Settings) (t : List Record) (addresses : List ℕ) (fit : Bool) (a
   viewed-all h =
       let first : i ≡ 0 = omega arith in
       let all = tallied-all t associated joined associating i (v .tally) h in
-      (rw first at (v .fits), all .1, all .0, rw first at (v .named))
+      (rw first at (v .fits), all .1, all .0, rw first at (v .named .same))

@@ -1,6 +1,5 @@
 // The calls over a table of 1536 octets, as a host lends it; settings and answer by value.
 use crate::host::play::play;
-use crate::host::play::room;
 use crate::host::rows::find;
 use crate::host::rows::peer_at;
 use crate::host::rows::vacancy;
@@ -13,6 +12,7 @@ use crate::rules::answer::Answer;
 use crate::rules::ask::asked_at;
 use crate::rules::common::quiet;
 use crate::rules::event::Event;
+use crate::rules::event::room;
 use crate::rules::read::Reading;
 use crate::rules::receive::heard_from;
 use crate::rules::seat::Change;

@@ -7,12 +7,14 @@ use crate::host::rows::look;
 use crate::host::rows::met;
 use crate::rules::answer::Answer;
 use crate::rules::event::Event;
+use crate::rules::event::room;
+use crate::rules::event::step_in;
+use crate::rules::event::ticks;
 use crate::rules::read::read;
 use crate::rules::seat::Change;
 use crate::rules::seat::Found;
 use crate::rules::seat::answered;
 use crate::rules::seat::refused;
-use octets::frame::Frame;
 use peer::refuse::Others;
 use peer::settings::Settings;
 use peer::settings::associates;
@@ -24,24 +26,8 @@ ghost use Rattle.table.specs.Answer.{countAnswer, saidIn, saidLength};
 ghost use Rattle.table.specs.Lent.{roomOf};
 ghost use Rattle.table.specs.Others.{othersOf};
 ghost use Rattle.table.specs.Rows.{isTable, linkedIn, linksOver, octetsOf, recordsOf};
-ghost use Rattle.table.specs.Ruled.{asking, changeOf, naming, newAt, ruledIn, ruledOf, tickedIn, tickedOf, ticking, tuOf};
+ghost use Rattle.table.specs.Ruled.{asking, changeOf, naming, newAt, ruledIn, ruledOf, tickedIn, tickedOf, ticking};
 ghost use Rattle.table.specs.Seat.{metOf};
-
-// How many octets of buffer an event's call needs.
-pub fn room(e: Event) -> usize
-    ensures { λ r. ⌜ r ≡ roomOf e ⌝ }
-{
-    match e {
-        Event::Frame => Frame::LONGEST,
-        Event::Ask {
-            primitive,
-            address,
-            code,
-        } => Frame::LONGEST,
-        Event::Links => Frame::LONGEST,
-        Event::Clock(_) => 256,
-    }
-}
 
 // Whether a change may be one of links: where they are named, and at a free place, whose row is put there whole.
 fn links_too(table: &[u8], c: Change, naming: bool) -> bool
@@ -78,37 +64,6 @@ fn ticked(table: &mut [u8], s: Settings, step: u16, out: &mut [u8]) -> Answer
     }
     let written = clock(s, table, step, out);
     Answer::refusal(0).count(written)
-}
-
-// Whether an event is a clock step, and of how many TU.
-fn ticks(e: Event) -> bool
-    ensures { λ r. ⌜ r ≡ ticking e ⌝ }
-{
-    match e {
-        Event::Frame => false,
-        Event::Ask {
-            primitive,
-            address,
-            code,
-        } => false,
-        Event::Links => false,
-        Event::Clock(_) => true,
-    }
-}
-
-fn step_in(e: Event) -> u16
-    ensures { λ r. ⌜ r ≡ tuOf e ⌝ }
-{
-    match e {
-        Event::Frame => 0,
-        Event::Ask {
-            primitive,
-            address,
-            code,
-        } => 0,
-        Event::Links => 0,
-        Event::Clock(d) => d,
-    }
 }
 
 // Whether an event names links.

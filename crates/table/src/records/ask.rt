@@ -13,12 +13,40 @@ use crate::rules::seat::Change;
 use crate::rules::seat::refused;
 use octets::frame::Frame;
 use peer::record::Record;
+use peer::refuse::Others;
 use peer::settings::Settings;
 ghost use mathlib.Core.Path.{_≡_};
 ghost use lib.ListN.{length};
 ghost use Rattle.table.specs.Answer.{saidIn, steppedOf};
 ghost use Rattle.table.specs.Seat.{metOf};
-ghost use Rattle.table.specs.Ask.{askedOf};
+ghost use Rattle.table.specs.Ask.{askedAt, askedOf};
+ghost use Rattle.table.specs.Others.{othersOf};
+
+// A primitive, with the addresses of the table and what it asks of the whole table.
+pub(crate) fn asked_in(
+    s: Settings,
+    t: [Record; 32],
+    addresses: &[u64],
+    o: Others,
+    primitive: u8,
+    address: u64,
+    code: u16,
+) -> Change
+    ensures { λ c. ⌜ (o ≡ othersOf s t → metOf t c ≡ askedAt s t (now (addresses .entry)) primitive address code) ⌝ }
+{
+    let at = find(addresses, address);
+    asked_at(
+        s,
+        find(addresses, 0),
+        at,
+        find_link(t, address),
+        peer_at(t, at, address),
+        o,
+        primitive,
+        address,
+        code,
+    )
+}
 
 fn asked(
     s: Settings,
@@ -38,19 +66,8 @@ fn asked(
     if well(s, t, v.fit, v.crowd, &addresses) {} else {
         return refused(2);
     }
-    let at = find(&addresses, address);
     let o = others(s, v.associated, v.crowd);
-    asked_at(
-        s,
-        find(&addresses, 0),
-        at,
-        find_link(t, address),
-        peer_at(t, at, address),
-        o,
-        primitive,
-        address,
-        code,
-    )
+    asked_in(s, t, &addresses, o, primitive, address, code)
 }
 
 // A primitive: the table after it, the answer, and the frame in the buffer.

@@ -73,7 +73,7 @@ pub(crate) fn may_link(
 }
 
 // Links named, with the addresses of the table.
-fn named_at(s: Settings, t: [Record; 32], addresses: &[u64], named: &[u8]) -> Change
+pub(crate) fn named_at(s: Settings, t: [Record; 32], addresses: &[u64], named: &[u8]) -> Change
     ensures { λ c. ⌜ metOf t c ≡ linkedAt s t (now (addresses .entry)) (now (named .entry)) ⌝ }
 {
     let device = device_in(named);

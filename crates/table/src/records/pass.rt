@@ -3,7 +3,6 @@ use crate::records::fit::well_formed;
 use crate::rules::answer::Answer;
 use crate::rules::answer::Stepped;
 use crate::rules::pass::put_report;
-use crate::rules::pass::refusal;
 use peer::record::Record;
 use peer::settings::Settings;
 use peer::tick::tick;
@@ -12,6 +11,7 @@ ghost use Prim.Native.Nat.{_≤_};
 ghost use lib.ListN.{length};
 ghost use lib.Seq.{sets};
 ghost use Rattle.table.specs.Pass.{reportsOf, clockedOf, passedOf, passedIn};
+ghost use Rattle.table.specs.Ruled.{tickedIn, tickedOf};
 
 // The table after a clock step, and how many octets of reports were written.
 pub struct Clocked {
@@ -40,22 +40,15 @@ fn clock(s: Settings, t: [Record; 32], d: u16, out: &mut [u8]) -> Clocked
     }
 }
 
-// A clock step of d TU: the table after it, the answer, and the reports in the buffer.
-pub fn pass(s: Settings, t: [Record; 32], d: u16, out: &mut [u8]) -> Stepped
-    ensures { λ r. ⌜ (r ≡ passedOf s t d (length (now (out .entry)))) × (now (out .exit) ≡ passedIn s t d (now (out .entry))) ⌝ }
+// A clock step once refusals 1 and 2 do not apply.
+pub(crate) fn ticked(s: Settings, t: [Record; 32], d: u16, out: &mut [u8]) -> Stepped
+    requires { ⌜ 256 ≤ length (now out) ⌝ }
+    ensures { λ r. ⌜ (r ≡ tickedOf s t d) × (now (out .exit) ≡ tickedIn s t d (now (out .entry))) ⌝ }
 {
-    // Tested here too, for `clock` is lent the buffer.
-    if out.len() < 256 {
+    if d == 0 {
         return Stepped {
             table: t,
-            answer: Answer::refusal(1),
-        };
-    }
-    let n = refusal(out.len(), well_formed(s, t), d);
-    if n != 0 {
-        return Stepped {
-            table: t,
-            answer: Answer::refusal(n),
+            answer: Answer::refusal(3),
         };
     }
     let c = clock(s, t, d, out);
@@ -64,4 +57,23 @@ pub fn pass(s: Settings, t: [Record; 32], d: u16, out: &mut [u8]) -> Stepped
         table,
         answer: Answer::refusal(0).count(c.written),
     }
+}
+
+// A clock step of d TU: the table after it, the answer, and the reports in the buffer.
+pub fn pass(s: Settings, t: [Record; 32], d: u16, out: &mut [u8]) -> Stepped
+    ensures { λ r. ⌜ (r ≡ passedOf s t d (length (now (out .entry)))) × (now (out .exit) ≡ passedIn s t d (now (out .entry))) ⌝ }
+{
+    if out.len() < 256 {
+        return Stepped {
+            table: t,
+            answer: Answer::refusal(1),
+        };
+    }
+    if well_formed(s, t) {} else {
+        return Stepped {
+            table: t,
+            answer: Answer::refusal(2),
+        };
+    }
+    ticked(s, t, d, out)
 }

@@ -26,7 +26,7 @@ ghost use Rattle.table.specs.Answer.{saidIn, steppedOf};
 ghost use Rattle.table.specs.Receive.{heardAt, receivedOf};
 
 // A frame that was read.
-fn heard_at(s: Settings, t: [Record; 32], addresses: &[u64], r: Reading) -> Change
+pub(crate) fn heard_at(s: Settings, t: [Record; 32], addresses: &[u64], r: Reading) -> Change
     ensures { λ c. ⌜ metOf t c ≡ heardAt s t (now (addresses .entry)) r ⌝ }
 {
     match r {

@@ -1,13 +1,13 @@
 // Why an event came to what it did, over records by value. Nothing is changed.
 use crate::records::fit::survey;
 use crate::records::fit::well;
-use crate::records::lent::room;
 use crate::records::link::may_link;
 use crate::records::places::find;
 use crate::records::places::find_link;
 use crate::records::places::seek;
 use crate::records::seat::peer_at;
 use crate::rules::event::Event;
+use crate::rules::event::room;
 use crate::rules::link::count_in;
 use crate::rules::link::device_in;
 use crate::rules::others::others;

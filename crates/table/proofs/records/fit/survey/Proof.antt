@@ -53,7 +53,7 @@ mul-addresses : tie.Need-mul-addresses Inv-loop μ-loop
 mul-addresses c = omega (arith, c .before .before .before .before .before .before .before .before .before .before .loop .inv .tally .low)
 
 array-write-addresses : tie.Need-array-write-addresses Inv-loop μ-loop
-array-write-addresses c = omega (arith, c .before .before .before .before .before .before .before .before .before .before .loop .inv .wide, c .before .before .before .before .before .before .before .before .before .before .loop .inv .tally .low, c .before .before .before .before .before .before .before .before .before .loop-test .taken)
+array-write-addresses c = omega (arith, c .before .before .before .before .before .before .before .before .before .before .loop .inv .named .wide, c .before .before .before .before .before .before .before .before .before .before .loop .inv .tally .low, c .before .before .before .before .before .before .before .before .before .loop-test .taken)
 
 loop-less : tie.Need-loop-less Inv-loop μ-loop
 loop-less c = search needs
