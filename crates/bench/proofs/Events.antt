@@ -1,9 +1,10 @@
 -- What an event makes of a run and of the output, put together from what was played, counted and put.
 -- Assumes nothing.
-use Prim.Native.Nat.{ℕ}
+use Prim.Native.Nat.{ℕ, _≤_}
 use mathlib.Core.Path.{_≡_, refl, ap}
 use mathlib.Core.Bool.{Bool, true, false}
 use mathlib.Core.List.{List}
+use native.Mathlib.Omega.{arith}
 use lib.Dec.{eqb}
 use borrow.Author.Tests.{eqb-true}
 use Rattle.octets.proofs.Branch.{by-bool}
@@ -12,6 +13,7 @@ use Rattle.peer.specs.declared.settings.Settings.{Settings}
 use Rattle.table.proofs.Theorems.DiscardLeaves.{discard-leaves}
 use Rattle.table.specs.Answer.{steppedOf}
 use Rattle.table.specs.Host.{hostAnswer, hostIn, hostTable}
+use Rattle.table.specs.Lent.{roomOf}
 use Rattle.table.specs.Receive.{receivedOf}
 use Rattle.table.specs.Rows.{isTable, recordsOf}
 use Rattle.table.specs.Step.{stepIn, stepOf}
@@ -40,6 +42,17 @@ host-answer ts s e xs i = rw i
 host-in : (ts : List ℕ) (s : Settings) (e : Event) (xs : List ℕ) → isTable ts ≡ true → hostIn ts s e xs zeros ≡ stepIn s (recordsOf ts) e xs zeros
 unfolding hostIn
 host-in ts s e xs i = rw i
+
+pub host-why : (ts : List ℕ) (s : Settings) (e : Event) (xs : List ℕ) → isTable ts ≡ true → hostWhy ts s e xs 256 ≡ whyOf s (recordsOf ts) e xs 256
+unfolding hostWhy
+host-why ts s e xs i = rw i
+
+-- 256 octets are room for every event
+pub room-small : (e : Event) → roomOf e ≤ 256
+room-small event.Frame = omega arith
+room-small (event.Ask q a c) = omega arith
+room-small event.Links = omega arith
+room-small (event.Clock d) = omega arith
 
 -- A frame that is dropped leaves the table as it was, so the rule that dropped it may be asked of the table after it.
 dropped-same : (s : Settings) (ts : List ℕ) (e : Event) (xs : List ℕ) → isTable ts ≡ true → Made ts → Made xs →
@@ -100,7 +113,7 @@ traced-lines r ts e xs number t u a scratch o o₁ o₂ h p f g = rw (g, f, p .0
 -- the run behind it, with the output k filled up to n
 pub event-run : (r : Run) (t : List Record) (e : Event) (xs l : List ℕ) (size number at n : ℕ) (k : List ℕ) → number ≡ numberAfter (r .number) →
     at ≡ behindOf (r .at) size (r .have) → upTo k n ≡ eventOutput r t e xs l →
-    _≡_ {A = Run} (record { settings = r .settings; number = number; at = at; have = r .have; out = n; first = r .first; over = r .over; done = r .done; prints = r .prints }) (eventOf r t e xs size l)
+    _≡_ {A = Run} (record { settings = r .settings; fit = r .fit; number = number; at = at; have = r .have; out = n; first = r .first; over = r .over; done = r .done; prints = r .prints }) (eventOf r t e xs size l)
 unfolding eventOf
 event-run r t e xs l size number at n k c b h =
     let f : n ≡ eventOutput r t e xs l .filled = ap (λ (o : Output). o .filled) h in

@@ -1,6 +1,7 @@
 pub mod Ahead
 pub mod Comings
 pub mod Digits
+pub mod Empty
 pub mod Ends
 pub mod Events
 pub mod Fronts

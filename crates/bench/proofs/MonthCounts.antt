@@ -37,7 +37,7 @@ use Rattle.bench.proofs.Counting.{facts-length}
 use Rattle.bench.proofs.MonthStream.{counted-before, counted-behind, counted-lines, lines-length, plays-octets}
 use Rattle.bench.proofs.Pending.{put-filled}
 use Rattle.bench.proofs.PlaysPrinted.{plays-printed}
-use Rattle.bench.proofs.Whole.{Kept, kept, whole-output, sound-of}
+use Rattle.bench.proofs.Whole.{Kept, kept, whole-output, ready-of}
 
 -- What a turn leaves in the output buffer where nothing was in it: nothing, an event's 25 octets, or the line `stop`.
 data Piece (q : Run) : Type 0 where
@@ -66,7 +66,7 @@ piece {o = o} {r = r} p z l Cut h us k q f =
 piece {o = o} {r = r} p z l Fault h us k q f = rw (f .1) (stop (stop-filled r o z l) refl)
 piece p z l (First s) h us k q f = rw (f .1) (quiet z)
 piece {ts = ts} {xs = xs} {o = o} {r = r} p z l (Next e) h us k q f =
-    rw (f .0 (sound-of p e h) .1) (event (event-filled r (recordsOf ts) e (bodyOf (ahead xs r)) o (p .mode) z l))
+    rw (f .0 (ready-of p e h) .1) (event (event-filled r (recordsOf ts) e (bodyOf (ahead xs r)) o (p .mode) z l))
 
 -- A turn more: what it left is counted.
 module _ {ts xs o read wrote : List ℕ} (c : Count) (n : ℕ) (w : Ran prints.Facts ts xs o (c .run) read wrote) (z : c .run .out ≡ 0) (long : length wrote ≡ 25 * n) (b : c .block ≡ countedIn n emptyOf wrote) where

@@ -34,7 +34,7 @@ use Rattle.bench.specs.declared.run.Run.{Run}
 use Rattle.bench.proofs.Pending.{event-pending}
 
 abbrev told : Run
-told = record { settings = asAp; number = 0; at = 0; have = 0; out = 0; first = false; over = false; done = false; prints = prints.Trace }
+told = record { settings = asAp; fit = true; number = 0; at = 0; have = 0; out = 0; first = false; over = false; done = false; prints = prints.Trace }
 
 -- 02:00:00:00:00:0c, with the links 02:00:00:00:00:0d and :0e
 abbrev named : List ℕ

@@ -23,6 +23,6 @@ pub front-kept : (l q s : List ℕ) (n m : ℕ) → n ≤ length l → n ≡ m �
 front-kept l q s n m h e f = rw (← e, ← f) (take-at (take n l) q n (length-take-le n l h))
 
 pub refilled : (r : Run) (n left len m b : ℕ) → b ≡ behindOf left n len → len ≡ m → left ≡ leftOf (r .at) (r .have) m →
-    _≡_ {A = Run} (record { settings = r .settings; number = r .number; at = 0; have = b; out = r .out; first = r .first; over = eqb n 0; done = r .done; prints = r .prints }) (refilledOf r m n)
+    _≡_ {A = Run} (record { settings = r .settings; fit = r .fit; number = r .number; at = 0; have = b; out = r .out; first = r .first; over = eqb n 0; done = r .done; prints = r .prints }) (refilledOf r m n)
 unfolding refilledOf
 refilled r n left len m b e f g = rw (e, f, g)

@@ -7,19 +7,14 @@ use mathlib.Core.List.{List, [], _++_, append-assoc, append-nil}
 use native.Mathlib.Omega.{arith}
 use lib.Dec.{eqb}
 use lib.ListN.{length, replicate, take, drop}
-use borrow.Author.Tests.{eq-eqb, eqb-true, leb-true, ne-eqb}
+use borrow.Author.Tests.{eq-eqb, eqb-true, ne-eqb}
 use Rattle.octets.proofs.Branch.{by-bool}
-use Rattle.octets.specs.Links.{linksAt, noLinks}
 use Rattle.octets.specs.Pick.{pick}
-use Rattle.octets.specs.Row.{rowAt}
 use Rattle.peer.proofs.Fits.{clash}
-use Rattle.peer.specs.Query.{queryOf}
-use Rattle.peer.specs.Fit.{placeFits}
-use Rattle.peer.specs.Record.{associates, exchangeOf, freeOf, isFree, isJoined}
 use Rattle.peer.specs.Settings.{settingsFit}
 use Rattle.peer.specs.declared.settings.Settings.{Settings}
 use Rattle.table.proofs.Octets.RowLaws.{length-records}
-use Rattle.table.specs.Rows.{isTable, numberedAt, queryNumbered, recordOf, recordsAt, recordsOf, rowNumbered}
+use Rattle.table.specs.Rows.{isTable, recordsOf}
 use Rattle.table.specs.declared.rules.event.Event.{Event}
 use Rattle.table.specs.Input.{bodyOf, sizeOf, takenOf}
 use Rattle.bench.specs.Line.{stopLine}
@@ -28,18 +23,17 @@ use Rattle.bench.specs.Play.{numberAfter, zeros}
 use Rattle.bench.specs.Printed.{Shown, Standing, outputOf, playedOn, printedFrom, shownBy}
 use Rattle.bench.specs.Rounds.{Ran, ahead, came, left, start, taken, went}
 use Rattle.bench.specs.Run.{aheadOf, begunOf, behindOf, doneOf, endOutput, eventLines, eventOf, eventOutput, flushedOf, shiftedOf, startOf, stopOutput}
-use Rattle.bench.specs.Turn.{Took, refilledOf}
+use Rattle.bench.specs.Turn.{Ready, Took, refilledOf}
 use Rattle.table.specs.declared.host.input.Taken.{Taken}
 use Rattle.table.specs.declared.host.input.Taken.the-variants.{Cut, Fault, First, Next}
 use Rattle.bench.specs.declared.run.Prints.{Prints}
 use Rattle.bench.specs.declared.run.Run.{Run}
 use Rattle.bench.proofs.Ahead.{ahead-behind, ahead-length, ahead-more, behind-is, left-is, more-inside}
+use Rattle.bench.proofs.Empty.{empty-records, empty-table, empty-well}
 use Rattle.bench.proofs.MoreOctets.{cut-short, taken-first, taken-next}
 use Rattle.table.proofs.Octets.InputLaws.{record-whole}
 use Rattle.table.proofs.Octets.KnownLaws.{all-octets, sound-later}
-use Rattle.table.proofs.Theorems.Well.{of-well}
-use Rattle.table.specs.Fit.{aloneIn, wellFormed}
-use Rattle.table.specs.Places.{allTails, countOf, linkAddressesOf}
+use Rattle.table.specs.Fit.{wellFormed}
 use Rattle.table.specs.Run.{Sound}
 use Rattle.bench.proofs.Pending.{event-pending, stop-pending}
 use Rattle.bench.proofs.Prints.{print-cut, print-fault, print-first, print-next}
@@ -63,20 +57,21 @@ pub record Kept (prints : Prints) (ts xs o : List ℕ) (r : Run) (read wrote : L
   -- the table is empty up to the settings, and well formed from there on, if they fit
   pub fresh : r .first ≡ true → ts ≡ replicate 1536 0
   pub well : r .first ≡ false → settingsFit (r .settings) ≡ true → wellFormed (r .settings) (recordsOf ts) ≡ true
+  pub fit : r .fit ≡ settingsFit (r .settings)
   pub law : (more : List ℕ) → (r .over ≡ true → more ≡ []) →
       outputOf (shownBy prints) (read ++ more) ≡ wrote ++ (take (r .out) o ++ toCome prints ts r (ahead xs r) more)
 
 -- where an event is next, the settings were taken
-pub sound-of : {prints : Prints} {ts xs o : List ℕ} {r : Run} {read wrote : List ℕ} → Kept prints ts xs o r read wrote → (e : Event) → takenOf (ahead xs r) (r .first) ≡ Next e → Sound (r .settings) ts
-sound-of {xs = xs} {r = r} p e t = record { table = p .table; well = p .well (taken-next (ahead xs r) (r .first) e t) }
+pub ready-of : {prints : Prints} {ts xs o : List ℕ} {r : Run} {read wrote : List ℕ} → Kept prints ts xs o r read wrote → (e : Event) → takenOf (ahead xs r) (r .first) ≡ Next e → Ready r ts
+ready-of {xs = xs} {r = r} p e t = record { sound = record { table = p .table; well = p .well (taken-next (ahead xs r) (r .first) e t) }; fit = p .fit }
 
 -- the same where a round goes on from r to q, by what it adds to the lines and what it takes from what is to come
 on-to : {prints : Prints} {ts us xs ys o k : List ℕ} {r q : Run} {read wrote : List ℕ} → Kept prints ts xs o r read wrote → q .prints ≡ r .prints → q .over ≡ r .over →
     q .at ≤ q .have → q .have ≤ length ys → isTable us ≡ true → (q .first ≡ true → us ≡ replicate 1536 0) →
-    (q .first ≡ false → settingsFit (q .settings) ≡ true → wellFormed (q .settings) (recordsOf us) ≡ true) →
+    (q .first ≡ false → settingsFit (q .settings) ≡ true → wellFormed (q .settings) (recordsOf us) ≡ true) → q .fit ≡ settingsFit (q .settings) →
     ((more : List ℕ) → (r .over ≡ true → more ≡ []) → take (r .out) o ++ toCome prints ts r (ahead xs r) more ≡ take (q .out) k ++ toCome prints us q (ahead ys q) more) →
     Kept prints us ys k q read wrote
-on-to {prints} {ts} {us} {xs} {ys} {o} {k} {r} {q} {read} {wrote} p m v a b t new well same =
+on-to {prints} {ts} {us} {xs} {ys} {o} {k} {r} {q} {read} {wrote} p m v a b t new well fit same =
     record {
       mode = m ∙ p .mode;
       places = a;
@@ -84,36 +79,13 @@ on-to {prints} {ts} {us} {xs} {ys} {o} {k} {r} {q} {read} {wrote} p m v a b t ne
       table = t;
       fresh = new;
       well = well;
+      fit = fit;
       law = λ more h. p .law more (λ e. h (v ∙ e)) ∙ ap (λ (l : List ℕ). wrote ++ l) (same more (λ e. h (v ∙ e)));
     }
 
--- the empty table is one, and its records are free
-empty-table : isTable (replicate 1536 0) ≡ true
-unfolding isTable numberedAt rowNumbered queryNumbered rowAt
-empty-table = refl
-
-empty-records : recordsOf (replicate 1536 0) ≡ replicate 32 freeOf
-unfolding recordsAt recordOf rowAt exchangeOf queryOf linksAt
-empty-records = refl
-
--- an empty table is well formed if the settings fit
-empty-well : (s : Settings) → settingsFit s ≡ true → wellFormed s (replicate 32 freeOf) ≡ true
-unfolding allTails placeFits isFree noLinks aloneIn linkAddressesOf countOf isJoined associates
-empty-well s g =
-    of-well s (replicate 32 freeOf)
-    (record {
-      settings = g;
-      long = refl;
-      places = refl;
-      distinct = refl;
-      apart = refl;
-      joined = λ r. leb-true (countOf isJoined (replicate 32 freeOf)) 1 refl;
-      associating = λ r. leb-true (countOf associates (replicate 32 freeOf)) 1 refl;
-    })
-
 started : (prints : Prints) (xs o : List ℕ) → Kept prints (replicate 1536 0) xs o (startOf prints) [] []
-unfolding startOf
-started prints xs o = record { mode = refl; places = omega arith; inside = omega arith; table = empty-table; fresh = λ z. refl; well = λ z. clash refl z; law = λ more h. rw empty-records refl }
+unfolding startOf settingsFit
+started prints xs o = record { mode = refl; places = omega arith; inside = omega arith; table = empty-table; fresh = λ z. refl; well = λ z. clash refl z; fit = refl; law = λ more h. rw empty-records refl }
 
 module _ {prints : Prints} {ts xs o : List ℕ} {r : Run} {read wrote : List ℕ} (p : Kept prints ts xs o r read wrote) (d : r .done ≡ false) (room : r .out + 8192 ≤ length o) where
   abbrev w : Shown
@@ -140,7 +112,7 @@ module _ {prints : Prints} {ts xs o : List ℕ} {r : Run} {read wrote : List ℕ
   ended : takenOf (ahead xs r) (r .first) ≡ Cut → r .over ≡ true → Kept prints ts xs (endOutput r o .octets) (doneOf r (endOutput r o .filled)) read wrote
   unfolding doneOf
   ended t v =
-      on-to p refl refl (p .places) (p .inside) (p .table) (p .fresh) (p .well)
+      on-to p refl refl (p .places) (p .inside) (p .table) (p .fresh) (p .well) (p .fit)
       (λ more h.
       let e : more ≡ [] = h v in
       ap (λ (l : List ℕ). take (r .out) o ++ l) (coming more ∙ rw (e, append-nil (ahead xs r)) (print-cut w (standing ts r) (ahead xs r) t ∙ ap (λ (b : Bool). pick b [] stopLine) none-left))
@@ -149,7 +121,7 @@ module _ {prints : Prints} {ts xs o : List ℕ} {r : Run} {read wrote : List ℕ
   stopped : takenOf (ahead xs r) (r .first) ≡ Fault → Kept prints ts xs (stopOutput r o .octets) (doneOf r (stopOutput r o .filled)) read wrote
   unfolding doneOf
   stopped t =
-      on-to p refl refl (p .places) (p .inside) (p .table) (p .fresh) (p .well)
+      on-to p refl refl (p .places) (p .inside) (p .table) (p .fresh) (p .well) (p .fit)
       (λ more h.
       ap (λ (l : List ℕ). take (r .out) o ++ l) (coming more ∙ print-fault w (standing ts r) (ahead xs r) more t)
       ∙ sym (append-nil (pending (stopOutput r o)) ∙ stop-pending o (r .out) (omega arith)))
@@ -170,7 +142,7 @@ module _ {prints : Prints} {ts xs o : List ℕ} {r : Run} {read wrote : List ℕ
   begun s t =
       let z : sizeOf (ahead xs r) ≤ length (ahead xs r) = record-whole (ahead xs r) (r .first) (rw t) in
       let empty = p .fresh (taken-first (ahead xs r) (r .first) s t) in
-      on-to p refl refl (next-inside (sizeOf (ahead xs r)) z) (p .inside) (p .table) (λ f. clash f refl) (λ f g. rw (empty, empty-records) (empty-well s g))
+      on-to p refl refl (next-inside (sizeOf (ahead xs r)) z) (p .inside) (p .table) (λ f. clash f refl) (λ f g. rw (empty, empty-records) (empty-well s g)) refl
       (λ more h.
       ap (λ (l : List ℕ). take (r .out) o ++ l)
       (coming more ∙ (print-first w (standing ts r) (ahead xs r) more s t ∙ rw (d, passed (sizeOf (ahead xs r)) z))))
@@ -184,7 +156,7 @@ module _ {prints : Prints} {ts xs o : List ℕ} {r : Run} {read wrote : List ℕ
       let u = recordsOf ts in
       let long = length-records 32 0 ts in
       let lines = event-pending r u e b (scratch-same (r .settings) u long e b) (step-same u (r .settings) e b 256 ∙ long) o (omega arith) in
-      on-to p refl refl (next-inside (sizeOf (ahead xs r)) z) (p .inside) (n .table) (λ f. clash f (taken-next (ahead xs r) (r .first) e t)) (λ f g. sound .well g)
+      on-to p refl refl (next-inside (sizeOf (ahead xs r)) z) (p .inside) (n .table) (λ f. clash f (taken-next (ahead xs r) (r .first) e t)) (λ f g. sound .well g) (p .fit)
       (λ more h.
       let text = said (w (numberAfter (r .number)) (r .settings) u e b) in
       let rest = printedFrom w 0 (playedOn (standing ts r) e b) (drop (sizeOf (ahead xs r)) (ahead xs r) ++ more) in
@@ -197,9 +169,9 @@ module _ {prints : Prints} {ts xs o : List ℕ} {r : Run} {read wrote : List ℕ
   by-taken Fault us k q t f = rw (f .0, f .1, f .2) (stopped t)
   by-taken (First s) us k q t f = rw (f .0, f .1, f .2) (begun s t)
   by-taken (Next e) us k q t f =
-      let v = sound-of p e t in
+      let v = ready-of p e t in
       let g = f .0 v in
-      let later = sound-later ts (r .settings) e (bodyOf (ahead xs r)) zeros (all-octets ts (f .1)) (all-octets (bodyOf (ahead xs r)) (f .2)) v in
+      let later = sound-later ts (r .settings) e (bodyOf (ahead xs r)) zeros (all-octets ts (f .1)) (all-octets (bodyOf (ahead xs r)) (f .2)) (v .sound) in
       let sound : Sound (r .settings) us = subst (λ (x : List ℕ). Sound (r .settings) x) (sym (g .0)) later in
       rw (g .1, g .2) (played e us t (trip (r .settings) ts e (bodyOf (ahead xs r)) us (p .table) (f .1) (f .2) (g .0)) sound)
 
@@ -218,6 +190,7 @@ more-came {prints} {ts} {xs} {o} {ys} {r} {read} {wrote} n p d v e k =
       table = p .table;
       fresh = p .fresh;
       well = p .well;
+      fit = p .fit;
       law = λ more h.
           ap (outputOf (shownBy prints)) (append-assoc read piece more)
           ∙ (p .law (piece ++ more) (λ z. clash z v)
@@ -235,6 +208,7 @@ lines-went {prints} {ts} {xs} {o} {r} {read} {wrote} p =
       table = p .table;
       fresh = p .fresh;
       well = p .well;
+      fit = p .fit;
       law = λ more h. p .law more h ∙ sym (append-assoc wrote (take (r .out) o) _);
     }
 

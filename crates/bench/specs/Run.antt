@@ -6,6 +6,7 @@ use mathlib.Core.List.{List, _++_}
 use lib.Dec.{eqb, leb}
 use lib.ListN.{length, take, drop}
 use Rattle.octets.specs.Pick.{pick}
+use Rattle.peer.specs.Settings.{settingsFit}
 use Rattle.peer.specs.declared.record.Record.{Record}
 use Rattle.peer.specs.declared.settings.Settings.{Settings}
 use Rattle.table.specs.Step.{stepOf, stepIn}
@@ -23,6 +24,7 @@ unfoldable pub startOf : Prints → Run
 startOf prints =
     record {
       settings = record { own = 0; network = 0; authentication = 0; association = 0; role = 0; rsna = 0; edition = 0; protection = 0; retry = 0; maximum = 0 };
+      fit = false;
       number = 0;
       at = 0;
       have = 0;
@@ -37,11 +39,12 @@ startOf prints =
 unfoldable pub behindOf : ℕ → ℕ → ℕ → ℕ
 behindOf at n have = pick (leb (at + n) have) (at + n) have
 
--- The settings record was taken: its `size` octets are passed, the rest stays.
+-- The settings record was taken: whether they fit is looked at here, its `size` octets are passed, the rest stays.
 unfoldable pub begunOf : Run → Settings → ℕ → Run
 begunOf r s size =
     record {
       settings = s;
+      fit = settingsFit s;
       number = r .number;
       at = behindOf (r .at) size (r .have);
       have = r .have;
@@ -72,6 +75,7 @@ unfoldable pub eventOf : Run → List Record → Event → List ℕ → ℕ → 
 eventOf r t e frame size l =
     record {
       settings = r .settings;
+      fit = r .fit;
       number = numberAfter (r .number);
       at = behindOf (r .at) size (r .have);
       have = r .have;
@@ -87,6 +91,7 @@ unfoldable pub flushedOf : Run → Bool → Run
 flushedOf r done =
     record {
       settings = r .settings;
+      fit = r .fit;
       number = r .number;
       at = r .at;
       have = r .have;
@@ -102,6 +107,7 @@ unfoldable pub doneOf : Run → ℕ → Run
 doneOf r n =
     record {
       settings = r .settings;
+      fit = r .fit;
       number = r .number;
       at = r .at;
       have = r .have;

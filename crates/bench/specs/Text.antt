@@ -2,8 +2,7 @@
 -- Assumes nothing.
 use Prim.Native.Nat.{ℕ, zero, suc, _+_, _/_, _%_}
 use mathlib.Core.List.{List, [], _∷_, _++_}
-use mathlib.Core.Bool.{Bool, true, false, _&&_}
-use lib.Dec.{ltb, eqb}
+use lib.Dec.{ltb}
 use Rattle.octets.specs.Pick.{pick}
 
 -- A number in decimal, of at most k digits, the highest first and none of them a leading 0.
@@ -30,10 +29,3 @@ hexOctet v = glyphOf (v / 16) ∷ glyphOf (v % 16) ∷ []
 unfoldable pub hexOf : List ℕ → List ℕ
 hexOf [] = []
 hexOf (v ∷ vs) = hexOctet v ++ hexOf vs
-
--- Whether two words are one, letter by letter.
-unfoldable pub sameOf : List ℕ → List ℕ → Bool
-sameOf [] [] = true
-sameOf [] (y ∷ ys) = false
-sameOf (x ∷ xs) [] = false
-sameOf (x ∷ xs) (y ∷ ys) = eqb x y && sameOf xs ys

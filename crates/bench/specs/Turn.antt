@@ -6,6 +6,7 @@ use mathlib.Core.List.{List}
 use mathlib.Core.Path.{_≡_}
 use lib.Dec.{eqb, leb}
 use lib.ListN.{length, getD, take}
+use Rattle.peer.specs.Settings.{settingsFit}
 use Rattle.table.specs.Host.{hostTable}
 use Rattle.table.specs.Rows.{recordsOf}
 use Rattle.table.specs.Run.{Sound}
@@ -25,6 +26,7 @@ unfoldable pub refilledOf : Run → ℕ → ℕ → Run
 refilledOf r len n =
     record {
       settings = r .settings;
+      fit = r .fit;
       number = r .number;
       at = 0;
       have = behindOf (leftOf (r .at) (r .have) len) n len;
@@ -40,16 +42,21 @@ pub data Refilled (xs : List ℕ) (r : Run) (ys : List ℕ) (q : Run) : Type 0 w
   failed : q ≡ doneOf r (r .out) → Refilled xs r ys q
   more : (n : ℕ) → q ≡ refilledOf r (length xs) n → take (leftOf (r .at) (r .have) (length xs)) ys ≡ take (leftOf (r .at) (r .have) (length xs)) (shiftedOf (r .at) (r .have) xs) → Refilled xs r ys q
 
+-- What an event is played on, without a check: octets that are `Sound` (table/specs/Run.antt), as they are from the empty table on, in a run that
+-- says rightly whether its settings fit.
+pub record Ready (r : Run) (ts : List ℕ) : Type 0 where
+  pub sound : Sound (r .settings) ts
+  pub fit : r .fit ≡ settingsFit (r .settings)
+
 -- What stands at the front of the octets ahead, taken: the table's octets ts, the output buffer o and the run r become us, k and q. Where no
--- record is there whole, at the end of the input, "a cut record" is a fault, and no octet left there is the input's end. An event is played without
--- a check of the table, which is `Sound` (table/specs/Run.antt) from the empty one on; its own octets and the table's are octets, as those of every
--- slice are.
+-- record is there whole, at the end of the input, "a cut record" is a fault, and no octet left there is the input's end. An event's own octets
+-- and the table's are octets, as those of every slice are.
 abbrev pub Took : Taken → List ℕ → List ℕ → List ℕ → Run → List ℕ → List ℕ → Run → Type 0
 Took Cut ahead ts o r us k q = (us ≡ ts) × (r .over ≡ true) × (q ≡ doneOf r (endOutput r o .filled)) × (k ≡ endOutput r o .octets)
 Took Fault ahead ts o r us k q = (us ≡ ts) × (q ≡ doneOf r (stopOutput r o .filled)) × (k ≡ stopOutput r o .octets)
 Took (First s) ahead ts o r us k q = (us ≡ ts) × (q ≡ begunOf r s (sizeOf ahead)) × (k ≡ o)
 Took (Next e) ahead ts o r us k q =
-    (Sound (r .settings) ts →
+    (Ready r ts →
     (us ≡ hostTable ts (r .settings) e (bodyOf ahead) zeros) ×
     (q ≡ eventOf r (recordsOf ts) e (bodyOf ahead) (sizeOf ahead) o) ×
     (k ≡ eventOutput r (recordsOf ts) e (bodyOf ahead) o .octets)) ×

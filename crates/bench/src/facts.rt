@@ -2,8 +2,8 @@
 use crate::text::has_room;
 use crate::text::put_octet;
 use crate::text::put_word;
-use octets::element::Comeback;
 use octets::element::first_comeback;
+use peer::association::comeback_hold;
 use peer::record::Record;
 use peer::settings::Settings;
 use peer::turn::Told;
@@ -198,11 +198,7 @@ fn hold_set(frame: &[u8], a: Answer) -> u32
     if is_parted(a) {
         return Record::HOLD;
     }
-    let c = first_comeback(frame);
-    match c {
-        Comeback::Given(tu) => tu,
-        Comeback::Absent => Record::HOLD,
-    }
+    comeback_hold(first_comeback(frame))
 }
 
 // The same, and 0 where none was set.

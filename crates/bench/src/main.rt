@@ -30,7 +30,7 @@ use run::Run;
 use run::round;
 use total::total_blocks;
 ghost use mathlib.Core.Path.{_≡_};
-ghost use Rattle.bench.specs.Text.{sameOf};
+ghost use Rattle.rival.specs.Alike.{same};
 
 // A proved loop has to end, and nothing says that an input does: so the turns are counted down from a number that no run uses up.
 fn run_all(prints: Prints) {
@@ -63,7 +63,7 @@ enum Mode {
 
 // Whether a word is a known one, letter by letter.
 fn is_word(word: &[u8], known: &[u8]) -> bool
-    ensures { λ r. ⌜ r ≡ sameOf (now (word .entry)) (now (known .entry)) ⌝ }
+    ensures { λ r. ⌜ r ≡ same (now (word .entry)) (now (known .entry)) ⌝ }
 {
     if word.len() != known.len() {
         return false;

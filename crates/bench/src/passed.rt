@@ -18,7 +18,7 @@ pub struct Counts {
 }
 
 // One more; the highest number stays.
-fn one_more(n: u64) -> u64
+pub(crate) fn one_more(n: u64) -> u64
     ensures { λ r. ⌜ r ≡ numberAfter n ⌝ }
 {
     if n == u64::MAX { n } else { n + 1 }

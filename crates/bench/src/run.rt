@@ -1,6 +1,7 @@
 // The run over an input: the octets read, what was taken of them, and the lines not yet written.
 use crate::input::shift;
 use crate::line::write_stop;
+use crate::passed::one_more;
 use crate::text::has_room;
 use crate::ways::explained;
 use crate::ways::noted;
@@ -19,10 +20,9 @@ ghost use mathlib.Core.Bool.{true};
 ghost use mathlib.Core.List.{List};
 ghost use Rattle.table.specs.Host.{hostTable};
 ghost use Rattle.table.specs.Rows.{recordsOf};
-ghost use Rattle.table.specs.Run.{Sound};
-ghost use Rattle.bench.specs.Play.{zeros, numberAfter};
+ghost use Rattle.bench.specs.Play.{zeros};
 ghost use Rattle.bench.specs.Run.{startOf, behindOf, begunOf, doneOf, eventOf, eventOutput, stopOutput};
-ghost use Rattle.bench.specs.Turn.{Flushed, Made, Refilled, Rounded, Turned, TurnOf};
+ghost use Rattle.bench.specs.Turn.{Flushed, Made, Ready, Refilled, Rounded, Turned, TurnOf};
 ghost use Rattle.table.specs.declared.host.input.Taken.the-variants.{Cut};
 
 // What is printed of an event.
@@ -41,6 +41,8 @@ pub enum Prints {
 // lines still to be written.
 pub struct Run {
     pub settings: Settings,
+    // Whether the settings fit: looked at once, where they are taken.
+    pub fit: bool,
     pub number: u64,
     pub at: usize,
     pub have: usize,
@@ -70,6 +72,7 @@ impl Run {
                 retry: 0,
                 maximum: 0,
             },
+            fit: false,
             number: 0,
             at: 0,
             have: 0,
@@ -164,23 +167,17 @@ fn begin(r: Run, s: Settings, size: usize) -> Run
 {
     let mut next = r;
     next.settings = s;
+    next.fit = s.fit();
     next.first = false;
     next.at = behind(r.at, size, r.have);
     next
 }
 
-// The number of the next event.
-fn counted(n: u64) -> u64
-    ensures { λ r. ⌜ r ≡ numberAfter n ⌝ }
-{
-    if n == u64::MAX { n } else { n + 1 }
-}
-
 // An event was taken: it is played, and its lines go to the output. The record has `size` octets, its body is `frame`.
 fn event(table: &mut [u8], output: &mut [u8], r: Run, e: Event, frame: &[u8], size: usize) -> Run
-    ensures { λ q. ⌜ (Sound (r .settings) (now (table .entry)) → (now (table .exit) ≡ hostTable (now (table .entry)) (r .settings) e (now (frame .entry)) zeros) × (q ≡ eventOf r (recordsOf (now (table .entry))) e (now (frame .entry)) size (now (output .entry))) × (now (output .exit) ≡ eventOutput r (recordsOf (now (table .entry))) e (now (frame .entry)) (now (output .entry)) .octets)) × (Made (now (table .entry))) × (Made (now (frame .entry))) ⌝ }
+    ensures { λ q. ⌜ (Ready r (now (table .entry)) → (now (table .exit) ≡ hostTable (now (table .entry)) (r .settings) e (now (frame .entry)) zeros) × (q ≡ eventOf r (recordsOf (now (table .entry))) e (now (frame .entry)) size (now (output .entry))) × (now (output .exit) ≡ eventOutput r (recordsOf (now (table .entry))) e (now (frame .entry)) (now (output .entry)) .octets)) × (Made (now (table .entry))) × (Made (now (frame .entry))) ⌝ }
 {
-    let number = counted(r.number);
+    let number = one_more(r.number);
     let mut next = r;
     next.number = number;
     next.at = behind(r.at, size, r.have);

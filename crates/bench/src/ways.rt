@@ -1,23 +1,23 @@
-// An event, played on the table's octets and printed: one function for each way to print it. Each gives where the next line goes.
+// An event, played on the table's octets without a check and printed: one function for each way to print it. Each gives where the next line goes.
 use crate::facts::hold_of;
 use crate::facts::reported_by;
 use crate::facts::sets_hold;
 use crate::facts::write_facts;
 use crate::lent::lent_play;
 use crate::line::write_line;
-use crate::rows::play;
-use crate::rows::play_in;
 use crate::rows::play_on;
+use crate::rows::play_on_in;
 use crate::rows::records_in;
+use crate::rows::why_on;
 use crate::run::Run;
 use crate::show::traced;
 use crate::why::write_why;
 use peer::settings::Settings;
 use peer::turn::Turn;
-use table::records::why::why;
 use table::rules::event::Event;
 use table::rules::why::reason_number;
 ghost use mathlib.Core.Path.{_≡_};
+ghost use Rattle.peer.specs.Settings.{settingsFit};
 ghost use Rattle.table.specs.Host.{hostAnswer, hostIn, hostTable};
 ghost use Rattle.table.specs.Rows.{recordsOf};
 ghost use Rattle.table.specs.Run.{Sound};
@@ -28,9 +28,10 @@ ghost use Rattle.bench.specs.Output.{putAll, putOf, short, upTo};
 ghost use Rattle.bench.specs.Play.{zeros};
 ghost use Rattle.bench.specs.Run.{playedOf, scratchOf};
 ghost use Rattle.bench.specs.Trace.{traceLines};
+ghost use Rattle.bench.specs.Turn.{Ready};
 ghost use Rattle.bench.specs.Why.{whyLine};
 
-// The line of an event, played without the check.
+// The line of an event.
 pub(crate) fn plain(
     table: &mut [u8],
     output: &mut [u8],
@@ -39,9 +40,9 @@ pub(crate) fn plain(
     e: Event,
     frame: &[u8],
 ) -> usize
-    ensures { λ n. ⌜ (Sound (r .settings) (now (table .entry)) → (now (table .exit) ≡ hostTable (now (table .entry)) (r .settings) e (now (frame .entry)) zeros) × (upTo (now (output .exit)) n ≡ putOf (short (lineOf number (hostAnswer (now (table .entry)) (r .settings) e (now (frame .entry)) zeros))) (upTo (now (output .entry)) (r .out)))) ⌝ }
+    ensures { λ n. ⌜ (Ready r (now (table .entry)) → (now (table .exit) ≡ hostTable (now (table .entry)) (r .settings) e (now (frame .entry)) zeros) × (upTo (now (output .exit)) n ≡ putOf (short (lineOf number (hostAnswer (now (table .entry)) (r .settings) e (now (frame .entry)) zeros))) (upTo (now (output .entry)) (r .out)))) ⌝ }
 {
-    let answer = play_on(table, r.settings, e, frame);
+    let answer = play_on(table, r.settings, r.fit, e, frame);
     write_line(output, r.out, number, answer)
 }
 
@@ -54,10 +55,10 @@ pub(crate) fn traced_event(
     e: Event,
     frame: &[u8],
 ) -> usize
-    ensures { λ n. ⌜ (now (table .exit) ≡ hostTable (now (table .entry)) (r .settings) e (now (frame .entry)) zeros) × (upTo (now (output .exit)) n ≡ putAll (traceLines (playedOf r (recordsOf (now (table .entry))) e (now (frame .entry)) .answer) (scratchOf r (recordsOf (now (table .entry))) e (now (frame .entry))) (playedOf r (recordsOf (now (table .entry))) e (now (frame .entry)) .table)) (putOf (short (lineOf number (playedOf r (recordsOf (now (table .entry))) e (now (frame .entry)) .answer))) (upTo (now (output .entry)) (r .out)))) ⌝ }
+    ensures { λ n. ⌜ (Ready r (now (table .entry)) → (now (table .exit) ≡ hostTable (now (table .entry)) (r .settings) e (now (frame .entry)) zeros) × (upTo (now (output .exit)) n ≡ putAll (traceLines (playedOf r (recordsOf (now (table .entry))) e (now (frame .entry)) .answer) (scratchOf r (recordsOf (now (table .entry))) e (now (frame .entry))) (playedOf r (recordsOf (now (table .entry))) e (now (frame .entry)) .table)) (putOf (short (lineOf number (playedOf r (recordsOf (now (table .entry))) e (now (frame .entry)) .answer))) (upTo (now (output .entry)) (r .out))))) ⌝ }
 {
-    let p = lent_play(r.settings, records_in(&*table), e, frame);
-    play(table, r.settings, e, frame);
+    let p = lent_play(r.settings, r.fit, records_in(&*table), e, frame);
+    play_on(table, r.settings, r.fit, e, frame);
     let answer = p.answer;
     let scratch = p.scratch;
     let after = p.table;
@@ -74,23 +75,23 @@ pub(crate) fn explained(
     e: Event,
     frame: &[u8],
 ) -> usize
-    ensures { λ n. ⌜ (now (table .exit) ≡ hostTable (now (table .entry)) (r .settings) e (now (frame .entry)) zeros) × (upTo (now (output .exit)) n ≡ putOf (short (whyLine number (whyOf (r .settings) (recordsOf (now (table .entry))) e (now (frame .entry)) 256))) (upTo (now (output .entry)) (r .out))) ⌝ }
+    ensures { λ n. ⌜ (Ready r (now (table .entry)) → (now (table .exit) ≡ hostTable (now (table .entry)) (r .settings) e (now (frame .entry)) zeros) × (upTo (now (output .exit)) n ≡ putOf (short (whyLine number (whyOf (r .settings) (recordsOf (now (table .entry))) e (now (frame .entry)) 256))) (upTo (now (output .entry)) (r .out)))) ⌝ }
 {
-    let w = why(r.settings, records_in(&*table), e, frame, 256);
-    play(table, r.settings, e, frame);
+    let w = why_on(&*table, r.settings, r.fit, e, frame);
+    play_on(table, r.settings, r.fit, e, frame);
     write_why(output, r.out, number, w)
 }
 
 // The rule that dropped a frame, 0 where none did. It is asked of the table after the frame, which a frame that is dropped leaves as it was.
-fn dropped_by(table: &[u8], s: Settings, e: Event, frame: &[u8], verdict: u8) -> u8
-    ensures { λ r. ⌜ r ≡ droppedBy e verdict (reasonNumber (hostWhy (now (table .entry)) s e (now (frame .entry)) 256 .reason)) ⌝ }
+fn dropped_by(table: &[u8], s: Settings, fit: bool, e: Event, frame: &[u8], verdict: u8) -> u8
+    ensures { λ r. ⌜ (fit ≡ settingsFit s → Sound s (now (table .entry)) → r ≡ droppedBy e verdict (reasonNumber (hostWhy (now (table .entry)) s e (now (frame .entry)) 256 .reason))) ⌝ }
 {
     match e {
         Event::Frame => {
             if verdict != Turn::DISCARD {
                 return 0;
             }
-            let w = table::host::why::why(table, s, e, frame, 256);
+            let w = why_on(table, s, fit, e, frame);
             let reason = w.reason;
             reason_number(reason)
         }
@@ -102,12 +103,12 @@ fn dropped_by(table: &[u8], s: Settings, e: Event, frame: &[u8], verdict: u8) ->
 
 // What is counted of it, as octets (02, K12).
 pub(crate) fn noted(table: &mut [u8], output: &mut [u8], r: Run, e: Event, frame: &[u8]) -> usize
-    ensures { λ n. ⌜ (now (table .exit) ≡ hostTable (now (table .entry)) (r .settings) e (now (frame .entry)) zeros) × (upTo (now (output .exit)) n ≡ putOf (short (onCounts factsOf (r .settings .role) e (now (frame .entry)) (hostAnswer (now (table .entry)) (r .settings) e (now (frame .entry)) zeros) (reasonNumber (hostWhy (hostTable (now (table .entry)) (r .settings) e (now (frame .entry)) zeros) (r .settings) e (now (frame .entry)) 256 .reason)) (hostIn (now (table .entry)) (r .settings) e (now (frame .entry)) zeros))) (upTo (now (output .entry)) (r .out))) ⌝ }
+    ensures { λ n. ⌜ (Ready r (now (table .entry)) → (now (table .exit) ≡ hostTable (now (table .entry)) (r .settings) e (now (frame .entry)) zeros) × (upTo (now (output .exit)) n ≡ putOf (short (onCounts factsOf (r .settings .role) e (now (frame .entry)) (hostAnswer (now (table .entry)) (r .settings) e (now (frame .entry)) zeros) (reasonNumber (hostWhy (hostTable (now (table .entry)) (r .settings) e (now (frame .entry)) zeros) (r .settings) e (now (frame .entry)) 256 .reason)) (hostIn (now (table .entry)) (r .settings) e (now (frame .entry)) zeros))) (upTo (now (output .entry)) (r .out)))) ⌝ }
 {
     let mut scratch = [0u8; 256];
     let s = r.settings;
-    let a = play_in(&mut *table, s, e, frame, &mut scratch);
-    let dropped = dropped_by(&*table, s, e, frame, a.verdict);
+    let a = play_on_in(&mut *table, s, r.fit, e, frame, &mut scratch);
+    let dropped = dropped_by(&*table, s, r.fit, e, frame, a.verdict);
     let set = sets_hold(s.role, e, a);
     let hold = hold_of(set, frame, a);
     write_facts(

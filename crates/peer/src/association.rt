@@ -34,7 +34,7 @@ pub fn request_heard(s: Settings, p: Record, kind: Kind, current: u64) -> Turn
 }
 
 // The hold that a rejection sets. A comeback of 0 is a hold of 0.
-fn comeback_hold(c: Comeback) -> u32
+pub fn comeback_hold(c: Comeback) -> u32
     ensures { λ r. ⌜ r ≡ comebackHold c ⌝ }
 {
     match c {

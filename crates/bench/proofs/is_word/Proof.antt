@@ -2,7 +2,7 @@
 -- Assumes nothing.
 use Prim.Native.Nat.{_-_, _≤_}
 use Rattle.bench.proofs.Words.{same-end, same-lengths, same-other, same-step}
-use Rattle.bench.specs.Text.{sameOf}
+use Rattle.rival.specs.Alike.{same}
 use borrow.Author.Needs.{needs}
 use borrow.Author.Tests.{eq-eqb, ne-eqb}
 use lib.ListN.{drop, length}
@@ -12,7 +12,7 @@ use Rattle.bench.proofs.is_word.Statement.{statement}
 use Rattle.bench.proofs.is_word.Tie as tie
 
 abbrev Inv-loop : tie.InvT-loop
-Inv-loop word known i₀ i = (i ≤ length word) × (length word ≡ length known) × (sameOf (drop i word) (drop i known) ≡ sameOf word known)
+Inv-loop word known i₀ i = (i ≤ length word) × (length word ≡ length known) × (same (drop i word) (drop i known) ≡ same word known)
 
 abbrev μ-loop : tie.MeasureT-loop
 μ-loop word known i₀ i = length word - i

@@ -51,8 +51,7 @@ use Rattle.peer.specs.declared.settings.Settings.{Settings}
 use Rattle.table.specs.declared.rules.answer.Answer.{Answer}
 use Rattle.table.specs.declared.rules.answer.Stepped.{Stepped}
 use Rattle.table.specs.declared.rules.event.Event.{Event}
-use Rattle.table.specs.Lent.{lentAnswer, lentTable, lentIn}
-use Rattle.table.specs.Step.{stepOf, stepIn}
+use Rattle.table.specs.Ruled.{ruledIn, ruledLentAnswer, ruledLentIn, ruledLentTable, ruledOf}
 use Rattle.table.proofs.Walks.LocalArray.{local-apart, local-whole}
 use Rattle.bench.proofs.LentStep.{field-of-array, lent-says}
 use Rattle.peer.proofs.record.Record as RecordT
@@ -65,10 +64,10 @@ use Rattle.table.proofs.rules.answer.Stepped as SteppedT
 use Rattle.table.proofs.rules.answer.Stepped.Laws as SteppedT′
 use Rattle.table.proofs.rules.event.Event as EventT
 use Rattle.table.proofs.rules.event.Event.Laws as EventT′
-use Rattle.table.proofs.records.lent.step as step′
-use Rattle.table.proofs.records.lent.step.Symbol as step-def
-use Rattle.table.proofs.records.lent.step.Symbol.{name as #step}
-use Rattle.table.proofs.records.lent.step.Met as step-thm
+use Rattle.table.proofs.records.lent.play as play′
+use Rattle.table.proofs.records.lent.play.Symbol as play-def
+use Rattle.table.proofs.records.lent.play.Symbol.{name as #play}
+use Rattle.table.proofs.records.lent.play.Met as play-thm
 use Rattle.bench.proofs.lent.lend.Key.{name as #lend}
 use Rattle.bench.proofs.lent.lend as own′
 use Rattle.bench.proofs.lent.lend.Statement as stated
@@ -97,7 +96,7 @@ room32 = (lit< tt, lit< tt)
 
 module _ {M : Type 1} (𝓤 : URA M) (H : Heap 𝓤) (A : Atoms 𝓤) (at-mem : Memory → SProp 𝓤) (run : Routine → Fun 𝓤) where
   abbrev Step : Contract 𝓤
-  Step = tripleOf 𝓤 H A step′.signature (step′.spec 𝓤 H A at-mem run)
+  Step = tripleOf 𝓤 H A play′.signature (play′.spec 𝓤 H A at-mem run)
 
 module _ {M : Type 1} (𝓤 : URA M) (H : Heap 𝓤) (A : Atoms 𝓤) (W : Given 𝓤 H A) (at-mem : Memory → SProp 𝓤) (run : Routine → Fun 𝓤) (κ-f κ′ : Lft) (q-f q′ : Share) (v-s : Settings) (ts : List Record) (u : Val) (v-e : Event) (b-f o-f : ℕ) (γ-f : GName) (xs : List ℕ) (b′ o′ : ℕ) (γ′ : GName) (bs : List ℕ) where
   abbrev x : ℕ → GName → RefT (List Record)
@@ -143,7 +142,7 @@ module _ {M : Type 1} (𝓤 : URA M) (H : Heap 𝓤) (A : Atoms 𝓤) (W : Given
     room-t : Room R (length ts)
     room-t = subst (λ (n : ℕ). Room R n) (sym len) room32
 
-    exits : (d : Stepped) (v : Val) (cs : List ℕ) → Is RS d (v ∷ []) → length cs ≡ length bs → (d ≡ stepOf v-s ts v-e xs (length bs)) × (cs ≡ stepIn v-s ts v-e xs bs)
+    exits : (d : Stepped) (v : Val) (cs : List ℕ) → Is RS d (v ∷ []) → length cs ≡ length bs → (d ≡ ruledOf v-s ts v-e xs (length bs)) × (cs ≡ ruledIn v-s ts v-e xs bs)
         → ent 𝓤 (⋆ 𝓤 H A (‵ (finally u8 γ′ cs) ∷ ‵ (flft κ′ q′) ∷ ‵ (ShrSlice (named 0) κ-f u8 .own x-f (s-f ∷ [])) ∷ ‵ (flft κ-f q-f) ∷ [])) (Post v)
     exits d v cs is lc e =
         qed W (‵ (finally u8 γ′ cs) ∷ ‵ (flft κ′ q′) ∷ ‵ (ShrSlice (named 0) κ-f u8 .own x-f (s-f ∷ [])) ∷ ‵ (flft κ-f q-f) ∷ []) ∵
@@ -158,7 +157,7 @@ module _ {M : Type 1} (𝓤 : URA M) (H : Heap 𝓤) (A : Atoms 𝓤) (W : Given
     goes-step l ν δ =
         qed W (‵ (flft (ν ∷ []) fullShare) ∷ ‵ (MutSlice (named 0) (ν ∷ []) R .own (x l δ) (sliceVal (l, 0) (length ts) ∷ [])) ∷ ‵ (flft κ′ q′) ∷ ‵ (MutSlice (named 2) κ′ u8 .own x′ (s′ ∷ [])) ∷ ‵ (flft κ-f q-f) ∷ ‵ (ShrSlice (named 0) κ-f u8 .own x-f (s-f ∷ [])) ∷ []) ∵ rewrite ! 1 (λ (n : ℕ). ‵ (MutSlice (named 0) (ν ∷ []) R .own (x l δ) (sliceVal (l, 0) n ∷ []))) len refl $ nothing ! $ move ! (4 ∷ 0 ∷ []) $ fjoin ! $ move ! (5 ∷ 0 ∷ []) $ fjoin ! $ owned ! EventT.the-row (Is EventT.the-row) (Lenum.makes EventT.the-type EventT′.the-plain 𝓤 H A) v-e _ is-e $ fjoin ! $ owned ! SettingsT.the-row (Is SettingsT.the-row) (Lstruct.makes SettingsT.the-type SettingsT′.the-plain 𝓤 H A) v-s _ is-s $ fjoin ! $ move ! (2 ∷ 0 ∷ []) $ fjoin ! $ nothing ! $ move ! (3 ∷ 0 ∷ []) $ join ! $ move ! (3 ∷ 0 ∷ []) $ join ! $ move ! (2 ∷ 0 ∷ []) $ join ! $ move ! (0 ∷ 1 ∷ []) $ join ! $ frame ! $ done !
 
-    module _ (C : Calls 𝓤 H) (Λ : Loops 𝓤 H) (fm : FmC 𝓤 H (W .laws) C) (known-step : Triple 𝓤 (C #step) (Step 𝓤 H A at-mem run)) where
+    module _ (C : Calls 𝓤 H) (Λ : Loops 𝓤 H) (fm : FmC 𝓤 H (W .laws) C) (known-step : Triple 𝓤 (C #play) (Step 𝓤 H A at-mem run)) where
       walk : ent 𝓤 (onEntry 𝓤 H A own′.signature (κ-f, (κ′, tt)) (q-f, (q′, tt)) a at) (WpFn 𝓤 H C Λ code.function ((only ((Lstruct.vals SettingsT.the-type SettingsT′.the-laws) v-s)) ∷ u ∷ (only ((Lenum.vals EventT.the-type EventT′.the-laws) v-e)) ∷ s-f ∷ s′ ∷ []) Post)
       walk =
           qed W ((‵ (flft κ-f q-f) ⊛ ‵ (flft κ′ q′) ⊛ ‵ ftrue) ∷ ‵ (owns (SettingsT.the-row ∷ RT ∷ EventT.the-row ∷ ShrSlice (named 0) κ-f u8 ∷ MutSlice (named 1) κ′ u8 ∷ []) a at) ∷ []) ∵ enter ! C Λ code.function ((only ((Lstruct.vals SettingsT.the-type SettingsT′.the-laws) v-s)) ∷ u ∷ (only ((Lenum.vals EventT.the-type EventT′.the-laws) v-e)) ∷ s-f ∷ s′ ∷ []) _ $
@@ -176,9 +175,9 @@ module _ {M : Type 1} (𝓤 : URA M) (H : Heap 𝓤) (A : Atoms 𝓤) (W : Given
           move ! (5 ∷ []) $ use1 W (‵ (ShrSlice (named 0) κ-f u8 .own x-f (s-f ∷ [])) ⊛ ‵ (ShrSlice (named 0) κ-f u8 .own x-f (s-f ∷ []))) (shr-slice-copy 𝓤 H A W (named 0) κ-f u8 .twice x-f (s-f ∷ [])) $ split ! $
           move ! (7 ∷ 1 ∷ []) $ join ! $ move ! (5 ∷ 0 ∷ []) $ join ! $ move ! (5 ∷ 0 ∷ []) $ join ! $ move ! (4 ∷ 2 ∷ 0 ∷ []) $ use3 W (raw (Step 𝓤 H A at-mem run .pre (to-step l₆ ν δ))) (goes-step l₆ ν δ) $
           calls-at ! fm (Step 𝓤 H A at-mem run) known-step (to-step l₆ ν δ) (and-then ! (load ! (from ! (stop !)) (look ! 14 refl)) (and-then ! (load ! (from ! (stop !)) (look ! 29 refl)) (and-then ! (load ! (from ! (stop !)) (look ! 25 refl)) (and-then ! (load ! (from ! (stop !)) (look ! 23 refl)) (and-then ! (load ! (from ! (stop !)) (look ! 10 refl)) (no-more !)))))) (λ w.
-          use1 W (later (some (λ (r : Answer). ((‵ (flft (ν ∷ []) fullShare) ⊛ ‵ (flft κ-f q-f) ⊛ ‵ (flft κ′ q′) ⊛ ‵ ftrue) ⊛ ‵ (RA .own r (w ∷ []))) ⊛ raw (ensured 𝓤 H A step′.ended (step′.clauses 𝓤 H A at-mem run) ((ν ∷ []), (κ-f, (κ′, tt))) (x l₆ δ, (v-s, (v-e, (x-f, (x′, tt))))) tt r)))) (id⊢ 𝓤 _) $ await ! tt $ pick ! (λ r.
-          split ! $ move ! (1 ∷ []) $ use1 W (some (λ (ws : Lasts step′.ended ((ν ∷ []), (κ-f, (κ′, tt))) (x l₆ δ, (v-s, (v-e, (x-f, (x′, tt)))))). ‵ (lasts step′.ended ((ν ∷ []), (κ-f, (κ′, tt))) (x l₆ δ, (v-s, (v-e, (x-f, (x′, tt))))) ws) ⊛ raw (fact 𝓤 ((r ≡ lentAnswer ts v-s v-e xs bs) × ((ws .0 ≡ lentTable ts v-s v-e xs bs) × (ws .1 .1 .1 .1 .0 ≡ lentIn ts v-s v-e xs bs)))))) (id⊢ 𝓤 _) $ pick ! (λ ws.
-          split ! $ move ! (1 ∷ []) $ heard ! ((r ≡ lentAnswer ts v-s v-e xs bs) × ((ws .0 ≡ lentTable ts v-s v-e xs bs) × (ws .1 .1 .1 .1 .0 ≡ lentIn ts v-s v-e xs bs))) (λ e.
+          use1 W (later (some (λ (r : Answer). ((‵ (flft (ν ∷ []) fullShare) ⊛ ‵ (flft κ-f q-f) ⊛ ‵ (flft κ′ q′) ⊛ ‵ ftrue) ⊛ ‵ (RA .own r (w ∷ []))) ⊛ raw (ensured 𝓤 H A play′.ended (play′.clauses 𝓤 H A at-mem run) ((ν ∷ []), (κ-f, (κ′, tt))) (x l₆ δ, (v-s, (v-e, (x-f, (x′, tt))))) tt r)))) (id⊢ 𝓤 _) $ await ! tt $ pick ! (λ r.
+          split ! $ move ! (1 ∷ []) $ use1 W (some (λ (ws : Lasts play′.ended ((ν ∷ []), (κ-f, (κ′, tt))) (x l₆ δ, (v-s, (v-e, (x-f, (x′, tt)))))). ‵ (lasts play′.ended ((ν ∷ []), (κ-f, (κ′, tt))) (x l₆ δ, (v-s, (v-e, (x-f, (x′, tt))))) ws) ⊛ raw (fact 𝓤 ((r ≡ ruledLentAnswer ts v-s v-e xs bs) × ((ws .0 ≡ ruledLentTable ts v-s v-e xs bs) × (ws .1 .1 .1 .1 .0 ≡ ruledLentIn ts v-s v-e xs bs)))))) (id⊢ 𝓤 _) $ pick ! (λ ws.
+          split ! $ move ! (1 ∷ []) $ heard ! ((r ≡ ruledLentAnswer ts v-s v-e xs bs) × ((ws .0 ≡ ruledLentTable ts v-s v-e xs bs) × (ws .1 .1 .1 .1 .0 ≡ ruledLentIn ts v-s v-e xs bs))) (λ e.
           fsplit ! $ fsplit ! $ move ! (1 ∷ []) $ feqL ! (λ lz.
           move ! (1 ∷ []) $ fsplit ! $ move ! (1 ∷ []) $ fsplit ! $ move ! (1 ∷ []) $ fsplit ! $ move ! (1 ∷ []) $ fsplit ! $ fsplit ! $ move ! (1 ∷ []) $ feqL ! (λ lc.
           move ! (6 ∷ []) $ split ! $ move ! (1 ∷ []) $ peeks ! RA (Is RA) (shows 𝓤 H A RA) r (w ∷ []) (λ is-r. drop ! $
@@ -200,7 +199,7 @@ module _ {M : Type 1} (𝓤 : URA M) (H : Heap 𝓤) (A : Atoms 𝓤) (W : Given
           move ! (0 ∷ []) $ split ! $ move ! (1 ∷ []) $ split ! $ keep ! (3 ∷ 0 ∷ 8 ∷ 2 ∷ []) $ by ! (exits (record { table = ws .0; answer = r }) _ (ws .1 .1 .1 .1 .0) is-d lc (lent-says ts v-s v-e xs bs r (ws .0) (ws .1 .1 .1 .1 .0) len e)))))))))))))))))))))))))
 
 module _ {M : Type 1} (𝓤 : URA M) (H : Heap 𝓤) (A : Atoms 𝓤) (W : Given 𝓤 H A) (at-mem : Memory → SProp 𝓤) (run : Routine → Fun 𝓤) where
-  walks : (C : Calls 𝓤 H) (Λ : Loops 𝓤 H) → FmC 𝓤 H (W .laws) C → Triple 𝓤 (C #step) (Step 𝓤 H A at-mem run)
+  walks : (C : Calls 𝓤 H) (Λ : Loops 𝓤 H) → FmC 𝓤 H (W .laws) C → Triple 𝓤 (C #play) (Step 𝓤 H A at-mem run)
       → Walks 𝓤 H A own′.ended stayed (WpFn 𝓤 H C Λ code.function) (own′.clauses 𝓤 H A at-mem run)
   walks C Λ fm ks = walked 𝓤 H A own′.ended stayed (own′.clauses 𝓤 H A at-mem run) (WpFn 𝓤 H C Λ code.function)
       (λ κs. ((Lstruct.vals SettingsT.the-type SettingsT′.the-laws), (array-vals (Lstruct.vals RecordT.the-type RecordT′.the-laws), ((Lenum.vals EventT.the-type EventT′.the-laws), (slice-vals, (slice-vals, tt))))))
@@ -209,7 +208,7 @@ module _ {M : Type 1} (𝓤 : URA M) (H : Heap 𝓤) (A : Atoms 𝓤) (W : Given
       (are .0) (are .1 .0) (are .1 .1 .0) (are .1 .1 .1 .0 .0 .1) (are .1 .1 .1 .1 .0 .0 .1) C Λ fm ks))
 
 meets : {M : Type 1} (𝓤 : URA M) (H : Heap 𝓤) (A : Atoms 𝓤) → Given 𝓤 H A → (at-mem : Memory → SProp 𝓤) (run : Routine → Fun 𝓤) (𝓣 : Tables 𝓤 H)
-    → Triple 𝓤 (𝓣 .C #step) (Step 𝓤 H A at-mem run)
+    → Triple 𝓤 (𝓣 .C #play) (Step 𝓤 H A at-mem run)
     → Meets 𝓤 H A own′.signature (WpFn 𝓤 H (𝓣 .C) (𝓣 .Λ) code.function) (own′.spec 𝓤 H A at-mem run)
 meets 𝓤 H A W at-mem run 𝓣 ks = walk-meets 𝓤 H A own′.ended stayed W
     (goes-none 𝓤 H A W 2 (λ _. SettingsT.the-row) yes (λ κs x f. refl), (goes-none 𝓤 H A W 2 (λ _. RT) yes (λ κs x f. refl), (goes-none 𝓤 H A W 2 (λ _. EventT.the-row) yes (λ κs x f. refl), (goes-none-slice 𝓤 H A W 2 (0 ∷ []) tt (plain (λ _. u8)) yes, (goes-gave-slice 𝓤 H A W 2 1 tt (plain (λ _. u8)), tt))))) (own′.clauses 𝓤 H A at-mem run)
@@ -221,4 +220,4 @@ lend-spec 𝓤 H 𝓜 𝓖 𝓡 =
     entered 𝓤 H (tripleOf 𝓤 H (𝓖 .A) own′.signature (own′.spec 𝓤 H (𝓖 .A) (𝓜 .mem) (𝓡 .run)))
     (tables 𝓤 H 𝓜 𝓡 code.env .C) (tables 𝓤 H 𝓜 𝓡 code.env .Λ) #lend code.function (code.unfolded 𝓤 H 𝓜 𝓡)
     (meets 𝓤 H (𝓖 .A) (givenOf 𝓤 H 𝓜 𝓖) (𝓜 .mem) (𝓡 .run) (tablesOf 𝓤 H 𝓜 (tables 𝓤 H 𝓜 𝓡 code.env))
-    (cited 𝓤 H (Step 𝓤 H (𝓖 .A) (𝓜 .mem) (𝓡 .run)) 𝓜 𝓡 code.env #step step-def.routine code.calls-table·records·lent·step (step-thm.met 𝓤 H 𝓜 𝓖 𝓡)))
+    (cited 𝓤 H (Step 𝓤 H (𝓖 .A) (𝓜 .mem) (𝓡 .run)) 𝓜 𝓡 code.env #play play-def.routine code.calls-table·records·lent·play (play-thm.met 𝓤 H 𝓜 𝓖 𝓡)))

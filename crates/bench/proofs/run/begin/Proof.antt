@@ -5,12 +5,15 @@ use borrow.Author.Needs.{needs}
 use Rattle.bench.proofs.run.begin.Statement.{statement}
 use Rattle.bench.proofs.run.begin.Tie as tie
 
+fit-requires : tie.Need-fit-requires
+fit-requires c κs = search needs
+
 behind-requires : tie.Need-behind-requires
 behind-requires c κs = search needs
 
 returns : tie.Need-returns
 unfolding begunOf
-returns c = rw (c .behind .ensures)
+returns c = rw (c .behind .ensures, c .before .fit .ensures)
 
 pub begin-spec : {M : Type 1} → statement M
-begin-spec = tie.close (tie.spec behind-requires returns)
+begin-spec = tie.close (tie.spec fit-requires behind-requires returns)

@@ -10,8 +10,8 @@ use mathlib.Core.Path.{_≡_, ap}
 use Rattle.bench.proofs.run.event.Statement.{statement}
 use Rattle.bench.proofs.run.event.Tie as tie
 
-counted-requires : tie.Need-counted-requires
-counted-requires c κs = search needs
+one-more-requires : tie.Need-one-more-requires
+one-more-requires c κs = search needs
 
 behind-requires : tie.Need-behind-requires
 behind-requires c κs = search needs
@@ -50,11 +50,11 @@ returns : tie.Need-returns
 returns c =
     let a = c .before .before .before .before .before .before .before .before .before .before .before .before .before .before .args in
     let ts = now (a .table) in
-    let n = c .before .before .before .before .before .before .before .before .before .before .counted .ensures in (
+    let n = c .before .before .before .before .before .before .before .before .before .before .one-more .ensures in (
       λ i.
           let p = c .before .before .before .before .plain .ensures i in
           let h : upTo (c .before .before .before .before .plain .last .1 .0) (c .before .before .before .before .plain .result) ≡ eventOutput (a .r) (recordsOf ts) (a .e) (now (a .frame)) (now (a .output)) =
-          plain-output (a .r) ts (a .e) (now (a .frame)) (now (a .output)) _ n _ (i .table) (c .before .before .before .before .before .before .before .enum-told .given .1) (p .1) in
+          plain-output (a .r) ts (a .e) (now (a .frame)) (now (a .output)) _ n _ (i .sound .table) (c .before .before .before .before .before .before .before .enum-told .given .1) (p .1) in
           (p .0, event-run (a .r) (recordsOf ts) (a .e) (now (a .frame)) (now (a .output)) (a .size) _ _ _ _ n (c .before .before .before .before .before .before .before .before .before .behind .ensures) h, ap (λ (o : Output). o .octets) h),
       λ k. c .before .before .before .before .before .before .before .before .before .before .before .before .before .slice-known .given k .fits,
       λ k. c .before .before .before .before .before .before .before .before .before .before .before .shared-slice-known .given k .fits,
@@ -70,11 +70,11 @@ returns-2 : tie.Need-returns-2
 returns-2 c =
     let a = c .before .before .before .before .before .before .before .before .before .before .before .before .before .before .args in
     let ts = now (a .table) in
-    let n = c .before .before .before .before .before .before .before .before .before .before .counted .ensures in (
+    let n = c .before .before .before .before .before .before .before .before .before .before .one-more .ensures in (
       λ i.
           let h : upTo (c .before .before .before .before .traced-event .last .1 .0) (c .before .before .before .before .traced-event .result) ≡ eventOutput (a .r) (recordsOf ts) (a .e) (now (a .frame)) (now (a .output)) =
-          traced-output (a .r) ts (a .e) (now (a .frame)) (now (a .output)) _ n _ (c .before .before .before .before .before .before .before .enum-told2 .given .1) (c .before .before .before .before .traced-event .ensures .1) in
-          (c .before .before .before .before .traced-event .ensures .0, event-run (a .r) (recordsOf ts) (a .e) (now (a .frame)) (now (a .output)) (a .size) _ _ _ _ n (c .before .before .before .before .before .before .before .before .before .behind .ensures) h, ap (λ (o : Output). o .octets) h),
+          traced-output (a .r) ts (a .e) (now (a .frame)) (now (a .output)) _ n _ (c .before .before .before .before .before .before .before .enum-told2 .given .1) (c .before .before .before .before .traced-event .ensures i .1) in
+          (c .before .before .before .before .traced-event .ensures i .0, event-run (a .r) (recordsOf ts) (a .e) (now (a .frame)) (now (a .output)) (a .size) _ _ _ _ n (c .before .before .before .before .before .before .before .before .before .behind .ensures) h, ap (λ (o : Output). o .octets) h),
       λ k. c .before .before .before .before .before .before .before .before .before .before .before .before .before .slice-known .given k .fits,
       λ k. c .before .before .before .before .before .before .before .before .before .before .before .shared-slice-known .given k .fits,
     )
@@ -89,11 +89,11 @@ returns-3 : tie.Need-returns-3
 returns-3 c =
     let a = c .before .before .before .before .before .before .before .before .before .before .before .before .before .before .args in
     let ts = now (a .table) in
-    let n = c .before .before .before .before .before .before .before .before .before .before .counted .ensures in (
+    let n = c .before .before .before .before .before .before .before .before .before .before .one-more .ensures in (
       λ i.
           let h : upTo (c .before .before .before .before .explained .last .1 .0) (c .before .before .before .before .explained .result) ≡ eventOutput (a .r) (recordsOf ts) (a .e) (now (a .frame)) (now (a .output)) =
-          why-output (a .r) ts (a .e) (now (a .frame)) (now (a .output)) _ n _ (c .before .before .before .before .before .before .before .enum-told3 .given .1) (c .before .before .before .before .explained .ensures .1) in
-          (c .before .before .before .before .explained .ensures .0, event-run (a .r) (recordsOf ts) (a .e) (now (a .frame)) (now (a .output)) (a .size) _ _ _ _ n (c .before .before .before .before .before .before .before .before .before .behind .ensures) h, ap (λ (o : Output). o .octets) h),
+          why-output (a .r) ts (a .e) (now (a .frame)) (now (a .output)) _ n _ (c .before .before .before .before .before .before .before .enum-told3 .given .1) (c .before .before .before .before .explained .ensures i .1) in
+          (c .before .before .before .before .explained .ensures i .0, event-run (a .r) (recordsOf ts) (a .e) (now (a .frame)) (now (a .output)) (a .size) _ _ _ _ n (c .before .before .before .before .before .before .before .before .before .behind .ensures) h, ap (λ (o : Output). o .octets) h),
       λ k. c .before .before .before .before .before .before .before .before .before .before .before .before .before .slice-known .given k .fits,
       λ k. c .before .before .before .before .before .before .before .before .before .before .before .shared-slice-known .given k .fits,
     )
@@ -108,11 +108,11 @@ returns-4 : tie.Need-returns-4
 returns-4 c =
     let a = c .before .before .before .before .before .before .before .before .before .before .before .before .before .before .args in
     let ts = now (a .table) in
-    let n = c .before .before .before .before .before .before .before .before .before .before .counted .ensures in (
+    let n = c .before .before .before .before .before .before .before .before .before .before .one-more .ensures in (
       λ i.
           let h : upTo (c .before .before .before .before .noted .last .1 .0) (c .before .before .before .before .noted .result) ≡ eventOutput (a .r) (recordsOf ts) (a .e) (now (a .frame)) (now (a .output)) =
-          facts-output (a .r) ts (a .e) (now (a .frame)) (now (a .output)) _ n _ (i .table) (λ k. c .before .before .before .before .before .before .before .before .before .before .before .before .before .slice-known .given k .fits) (λ k. c .before .before .before .before .before .before .before .before .before .before .before .shared-slice-known .given k .fits) (c .before .before .before .before .before .before .before .enum-told4 .given .1) (c .before .before .before .before .noted .ensures .1) in
-          (c .before .before .before .before .noted .ensures .0, event-run (a .r) (recordsOf ts) (a .e) (now (a .frame)) (now (a .output)) (a .size) _ _ _ _ n (c .before .before .before .before .before .before .before .before .before .behind .ensures) h, ap (λ (o : Output). o .octets) h),
+          facts-output (a .r) ts (a .e) (now (a .frame)) (now (a .output)) _ n _ (i .sound .table) (λ k. c .before .before .before .before .before .before .before .before .before .before .before .before .before .slice-known .given k .fits) (λ k. c .before .before .before .before .before .before .before .before .before .before .before .shared-slice-known .given k .fits) (c .before .before .before .before .before .before .before .enum-told4 .given .1) (c .before .before .before .before .noted .ensures i .1) in
+          (c .before .before .before .before .noted .ensures i .0, event-run (a .r) (recordsOf ts) (a .e) (now (a .frame)) (now (a .output)) (a .size) _ _ _ _ n (c .before .before .before .before .before .before .before .before .before .behind .ensures) h, ap (λ (o : Output). o .octets) h),
       λ k. c .before .before .before .before .before .before .before .before .before .before .before .before .before .slice-known .given k .fits,
       λ k. c .before .before .before .before .before .before .before .before .before .before .before .shared-slice-known .given k .fits,
     )
@@ -121,7 +121,7 @@ pub event-spec : {M : Type 1} → statement M
 event-spec =
     tie.close
     (tie.spec
-    counted-requires
+    one-more-requires
     behind-requires
     enum-told
     plain-requires

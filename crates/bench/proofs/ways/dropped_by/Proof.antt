@@ -13,10 +13,10 @@ enum-told : tie.Need-enum-told
 enum-told c = search needs
 
 returns : tie.Need-returns
-returns c = search (tests, c .before .enum-told .given .1, c .if1 .taken)
+returns c = λ f h. search (tests, c .before .enum-told .given .1, c .if1 .taken)
 
-why-requires : tie.Need-why-requires
-why-requires c κs = search needs
+why-on-requires : tie.Need-why-on-requires
+why-on-requires c κs = search needs
 
 reason-number-requires : tie.Need-reason-number-requires
 reason-number-requires c κs = search needs
@@ -31,16 +31,16 @@ enum-told-4 : tie.Need-enum-told-4
 enum-told-4 c = search needs
 
 returns-2 : tie.Need-returns-2
-returns-2 c = c .reason-number .ensures ∙ (ap (λ (w : Why). reasonNumber (w .reason)) (c .before .why .ensures) ∙ sym (dropped-frame _ _ (c .before .before .before .enum-told .given .1) (c .before .before .if1 .left)))
+returns-2 c = λ f h. c .reason-number .ensures ∙ (ap (λ (w : Why). reasonNumber (w .reason)) (c .before .why-on .ensures f h) ∙ sym (dropped-frame _ _ (c .before .before .before .enum-told .given .1) (c .before .before .if1 .left)))
 
 returns-3 : tie.Need-returns-3
-returns-3 c = rw (c .enum-told2 .given .1)
+returns-3 c = λ f h. rw (c .enum-told2 .given .1)
 
 returns-4 : tie.Need-returns-4
-returns-4 c = rw (c .enum-told3 .given .1)
+returns-4 c = λ f h. rw (c .enum-told3 .given .1)
 
 returns-5 : tie.Need-returns-5
-returns-5 c = rw (c .enum-told4 .given .1)
+returns-5 c = λ f h. rw (c .enum-told4 .given .1)
 
 pub dropped-by-spec : {M : Type 1} → statement M
 dropped-by-spec =
@@ -48,7 +48,7 @@ dropped-by-spec =
     (tie.spec
     enum-told
     returns
-    why-requires
+    why-on-requires
     reason-number-requires
     enum-told-2
     enum-told-3

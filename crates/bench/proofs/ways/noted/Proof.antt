@@ -1,17 +1,23 @@
 -- `bench::ways::noted` meets its contract: the event played, and what is counted of it put.
 -- Assumes nothing.
+use Prim.Native.Nat.{ℕ}
 use Rattle.bench.proofs.Counting.{reported-short}
-use Rattle.bench.proofs.Events.{noted-put}
-use denote.Ref.{now}
+use Rattle.bench.proofs.Events.{noted-put, room-small}
+use Rattle.bench.specs.Play.{zeros}
+use Rattle.table.proofs.Octets.KnownLaws.{all-octets, sound-later}
+use Rattle.table.specs.Run.{Sound}
 use borrow.Author.Needs.{needs}
+use denote.Ref.{now}
+use mathlib.Core.List.{List}
+use mathlib.Core.Path.{subst, sym}
 use Rattle.bench.proofs.ways.noted.Statement.{statement}
 use Rattle.bench.proofs.ways.noted.Tie as tie
 
-slice-aggregate-play-in : tie.Need-slice-aggregate-play-in
-slice-aggregate-play-in c = search needs
+slice-aggregate-play-on-in : tie.Need-slice-aggregate-play-on-in
+slice-aggregate-play-on-in c = search needs
 
-play-in-requires : tie.Need-play-in-requires
-play-in-requires c κs = search needs
+play-on-in-requires : tie.Need-play-on-in-requires
+play-on-in-requires c κs = search needs
 
 dropped-by-requires : tie.Need-dropped-by-requires
 dropped-by-requires c κs = search needs
@@ -29,7 +35,7 @@ reported-by-requires : tie.Need-reported-by-requires
 reported-by-requires c κs = search needs
 
 write-facts-requires : tie.Need-write-facts-requires
-write-facts-requires c κs = reported-short (c .before .before .before .before .before .before .before .before .before .before .before .before .before .before .before .before .before .args .e) (c .before .before .before .before .before .before .before .before .before .before .play-in .result .written) (c .before .before .before .before .before .before .before .before .before .before .play-in .last .1 .1 .1 .1 .0) (c .reported-by .ensures) (c .before .before .before .before .before .before .before .before .before .before .play-in .kept .1 .1 .1 .1 .0)
+write-facts-requires c κs = reported-short (c .before .before .before .before .before .before .before .before .before .before .before .before .before .before .before .before .before .args .e) (c .before .before .before .before .before .before .before .before .before .before .play-on-in .result .written) (c .before .before .before .before .before .before .before .before .before .before .play-on-in .last .1 .1 .1 .1 .1 .0) (c .reported-by .ensures) (c .before .before .before .before .before .before .before .before .before .before .play-on-in .kept .1 .1 .1 .1 .1 .0)
 
 same-length : tie.Need-same-length
 same-length c = search needs
@@ -38,18 +44,22 @@ same-length-2 : tie.Need-same-length-2
 same-length-2 c = search needs
 
 returns : tie.Need-returns
-returns c =
-    let a = c .before .before .before .before .before .before .before .before .before .before .before .before .before .before .before .before .before .before .before .before .args in (
-      c .before .before .before .before .before .before .before .before .before .before .before .before .before .play-in .ensures .1,
-      noted-put (a .r .settings) (a .e) (now (a .frame)) (now (a .table)) _ _ _ _ _ _ _ _ _ (c .before .before .before .before .before .before .before .before .before .before .before .before .before .play-in .ensures) (c .before .before .before .before .before .before .before .before .dropped-by .ensures) (c .before .before .before .reported-by .ensures) (c .before .before .before .before .before .before .before .sets-hold .ensures) (c .before .before .before .before .before .before .hold-of .ensures) (c .before .before .write-facts .ensures),
-    )
+returns c = λ h.
+    let a = c .before .before .before .before .before .before .before .before .before .before .before .before .before .before .before .before .before .before .before .before .args in
+    let s = a .r .settings in
+    let ts = now (a .table) in
+    let fs = now (a .frame) in
+    let p = c .before .before .before .before .before .before .before .before .before .before .before .before .before .play-on-in .ensures (h .fit) (h .sound) (room-small (a .e)) in
+    let later = sound-later ts s (a .e) fs zeros (all-octets ts (λ k. c .before .before .before .before .before .before .before .before .before .before .before .before .before .before .before .before .before .before .before .slice-known .given k .fits)) (all-octets fs (λ k. c .before .before .before .before .before .before .before .before .before .before .before .before .before .before .before .before .before .shared-slice-known .given k .fits)) (h .sound) in
+    let sound : Sound s (c .before .before .before .before .before .before .before .before .before .before .before .before .before .play-on-in .last .0) = subst (λ (x : List ℕ). Sound s x) (sym (p .1)) later in
+    (p .1, noted-put s (a .e) fs ts _ _ _ _ _ _ _ _ _ p (c .before .before .before .before .before .before .before .before .dropped-by .ensures (h .fit) sound) (c .before .before .before .reported-by .ensures) (c .before .before .before .before .before .before .before .sets-hold .ensures) (c .before .before .before .before .before .before .hold-of .ensures) (c .before .before .write-facts .ensures))
 
 pub noted-spec : {M : Type 1} → statement M
 noted-spec =
     tie.close
     (tie.spec
-    slice-aggregate-play-in
-    play-in-requires
+    slice-aggregate-play-on-in
+    play-on-in-requires
     dropped-by-requires
     sets-hold-requires
     hold-of-requires

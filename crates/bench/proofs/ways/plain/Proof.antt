@@ -18,7 +18,7 @@ same-length-2 c = search needs
 
 returns : tie.Need-returns
 returns c = λ h.
-    let p = c .before .before .before .before .before .before .play-on .ensures h in
+    let p = c .before .before .before .before .before .before .play-on .ensures (h .fit) (h .sound) in
     (p .1, rw (← p .0) (c .before .before .write-line .ensures))
 
 pub plain-spec : {M : Type 1} → statement M

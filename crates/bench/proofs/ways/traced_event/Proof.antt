@@ -12,8 +12,8 @@ records-in-requires c κs = search needs
 lent-play-requires : tie.Need-lent-play-requires
 lent-play-requires c κs = search needs
 
-play-requires : tie.Need-play-requires
-play-requires c κs = search needs
+play-on-requires : tie.Need-play-on-requires
+play-on-requires c κs = search needs
 
 write-line-requires : tie.Need-write-line-requires
 write-line-requires c κs = search needs
@@ -29,8 +29,8 @@ same-length-2 c = search needs
 
 returns : tie.Need-returns
 returns c =
-    let a = c .before .before .before .before .before .before .before .before .before .before .before .before .before .before .before .before .before .before .before .before .before .args in
-    (c .before .before .before .before .before .before .before .before .before .before .before .before .before .play .ensures .1, traced-lines (a .r) (now (a .table)) (a .e) (now (a .frame)) (a .number) _ _ _ _ _ _ _ (c .before .before .before .before .before .before .before .before .before .before .before .before .before .before .before .before .records-in .ensures) (c .before .before .before .before .before .before .before .before .before .before .before .before .before .before .before .lent-play .ensures) (c .before .before .before .before .before .before .write-line .ensures) (c .before .before .traced .ensures))
+    let a = c .before .before .before .before .before .before .before .before .before .before .before .before .before .before .before .before .before .before .before .before .before .args in λ h.
+    (c .before .before .before .before .before .before .before .before .before .before .before .before .before .play-on .ensures (h .fit) (h .sound) .1, traced-lines (a .r) (now (a .table)) (a .e) (now (a .frame)) (a .number) _ _ _ _ _ _ _ (c .before .before .before .before .before .before .before .before .before .before .before .before .before .before .before .before .records-in .ensures) (c .before .before .before .before .before .before .before .before .before .before .before .before .before .before .before .lent-play .ensures (h .fit) (λ f. rw (c .before .before .before .before .before .before .before .before .before .before .before .before .before .before .before .before .records-in .ensures) (h .sound .well f))) (c .before .before .before .before .before .before .write-line .ensures) (c .before .before .traced .ensures))
 
 pub traced-event-spec : {M : Type 1} → statement M
 traced-event-spec =
@@ -38,7 +38,7 @@ traced-event-spec =
     (tie.spec
     records-in-requires
     lent-play-requires
-    play-requires
+    play-on-requires
     write-line-requires
     traced-requires
     same-length
