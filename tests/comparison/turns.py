@@ -49,7 +49,7 @@ def read(octets, printed):
     count = sum(not line.startswith(" ") for line in printed.splitlines())
     if not every or not count:
         return None, []
-    found = answers.Trace().take(printed, last=True)
+    found = answers.read_trace(printed)
     if len(found) != count:
         raise answers.BenchFault(f"{len(found)} answers are read from {count} lines")
     tables = [{}] + [answer.table for answer in found]

@@ -72,7 +72,7 @@ def charted(trace, why):
                            + "".join(f"frame data from=02:00:00:00:{n:02x}:77\n" for n in range(9)))
     found = []
     for name, text in texts.items():
-        lines = stream.played(source.lines(io.StringIO(text), name), trace, why)
+        lines = stream.one_by_one(source.lines(io.StringIO(text), name), trace, why)
         canvas = played_chart.draw(played_chart.collected(lines), name)
         svg = canvas.svg()
         xml.dom.minidom.parseString(svg)

@@ -54,26 +54,43 @@ def check(file, bench, independent):
     return [f"{what}: {fault}" for what, fault in found.items() if fault]
 
 
-def many_lines(seed, count):
-    """Lines of an access point with forty peers, drawn by chance."""
+AP_FORMS = (
+    "frame auth-request from={}", "prim respond-authenticate {} status=0", "frame assoc-request from={}",
+    "prim respond-associate {} status=0", "prim report {} acknowledged=1", "frame data from={} body={:04x}",
+    "frame deauth from={} reason={}", "clock {1}", "frame sa-query-request from={} id={}", "prim query {}",
+    "frame data from={} version=1", "frame assoc-response from={}", "links {} 02:00:00:00:09:01", "prim 3 {} code=0",
+    "links {} none", "frame auth-request from=02:00:00:00:09:01", "frame assoc-request from={} to=03:00:00:00:00:{:02x}")
+STATION_FORMS = (
+    "prim authenticate {}", "frame auth-response from={}", "prim associate {}", "frame assoc-response from={} status=30 comeback={}",
+    "frame assoc-response from={}", "frame data from={} from-ds=1", "frame beacon from={}", "clock {1}", "prim reassociate {}",
+    "frame deauth from={} reason={}", "frame data from={0} from-ds=1 sequence={1}")
+LINK_FORMS = (
+    "links {0} r-{0}", "links {0} none", "frame auth-request from=r-{0}", "prim respond-authenticate {}", "frame assoc-request from=r-{0}",
+    "prim respond-associate {}", "prim report {}", "frame data from=r-{0}", "frame data from={}", "frame deauth from=r-{0}",
+    "prim deauthenticate r-{0}", "clock {1}")
+RANGES = "frame auth-request from=s-3..9", "frame data from=s-1..5", "prim deauthenticate s-2..6 reason={1}"
+
+
+def many_lines(seed, count, forms=AP_FORMS, peers=40):
+    """Lines of an access point with forty peers, or by other forms, drawn by chance."""
     draw = random.Random(seed)
-    forms = ("frame auth-request from={}", "prim respond-authenticate {} status=0", "frame assoc-request from={}",
-             "prim respond-associate {} status=0", "prim report {} acknowledged=1", "frame data from={} body={:04x}",
-             "frame deauth from={} reason={}", "clock {1}", "frame sa-query-request from={} id={}", "prim query {}",
-             "frame data from={} version=1", "frame assoc-response from={}", "links {} 02:00:00:00:09:01", "prim 3 {} code=0",
-             "links {} none", "frame auth-request from=02:00:00:00:09:01", "frame assoc-request from={} to=03:00:00:00:00:{:02x}")
     for _ in range(count):
-        yield draw.choice(forms).format(f"s-{draw.randrange(1, 41)}", draw.randrange(1, 256)) + "\n"
+        yield draw.choice(forms).format(f"s-{draw.randrange(1, peers + 1)}", draw.randrange(1, 256)) + "\n"
 
 
 def kept_words(bench):
     """What is told of an event is the same whether or not its like was told before."""
-    text = "ap own=02:00:00:00:00:01 edition=2 protection=1\nname s-1..40 = 02:00:00:00:01:01\n" + "".join(many_lines(1, 4000))
-    keeping, anew, faults = show.Teller(), show.Teller(), []
-    anew._again = lambda one: show.below(one[1].number, anew._said(one))
-    for line, played in stream.played(iter(lines_of(text)), bench + ["trace"], bench + ["why"]):
-        one, other = keeping.line(line, played), anew.line(line, played)
-        faults += [] if one == other else [f"{one} is told in place of {other}"]
+    faults = []
+    for settings, forms, peers in (("ap", AP_FORMS, 40), ("ap", AP_FORMS + RANGES, 12), ("ap", LINK_FORMS, 4),
+                                   ("station", STATION_FORMS + RANGES, 6)):
+        text = f"{settings} own=02:00:00:00:00:01 edition=2 protection=1\nname s-1..40 = 02:00:00:00:01:01\n"
+        text += "name r-s-1..4 = 02:00:00:00:08:01\n" + "".join(many_lines(1, 4000, forms, peers))
+        keeping, anew = show.Teller(), show.Teller()
+        for again in (anew._again, anew._each):
+            again.words = again.anew
+        for line, turns in stream.one_by_one(iter(lines_of(text)), bench + ["trace"], bench + ["why"]):
+            one, other = "".join(keeping.lines([line], turns)), anew.line(line, turns)
+            faults += [] if one == other else [f"{one} is told in place of {other}"]
     return faults
 
 

@@ -66,8 +66,8 @@ def one(start, before, event, wanted, program):
     """What came in place of one expectation, '' where it is met."""
     teller = show.Teller()
     text = f"{start}{before}{event}\nexpect {wanted}\n"
-    for line, played in stream.played(iter(lines_of(text)), *program):
-        teller.line(line, played)
+    for line, turns in stream.one_by_one(iter(lines_of(text)), *program):
+        teller.line(line, turns)
     return teller.failed[0][1] if teller.failed else ""
 
 

@@ -10,6 +10,7 @@ import pathlib
 import re
 
 from tools.scenario import codes
+from tools.scenario.answers import read
 from tools.scenario.names import Names
 from tools.scenario.source import UsageFault
 from tools.scenario.values import visible
@@ -28,13 +29,14 @@ Row = collections.namedtuple("Row", "text played settings names")
 def collected(played):
     """All lines that a chart shows; a fault where they are too many for a picture."""
     rows, names, drawn = [], Names(), 0
-    for line, events in played:
+    for line, turns in played:
         if line.named:
             names = copy.deepcopy(names)
             names.define(*line.named)
         if line.settings:
             names = copy.deepcopy(names)
             names.set_own(line.settings.own)
+        events = [read(turn) for turn in turns]
         drawn += bool(events)
         if drawn > MOST_ROWS:
             raise UsageFault(f"a chart of over {MOST_ROWS} lines with events can't be read: cut the scenario into parts")

@@ -65,20 +65,17 @@ def octets(lines, name):
             put(piece)
 
 
-def playing(lines, command):
-    return stream.played(lines, command + ["trace"], command + ["why"])
+def programs(command):
+    return command + ["trace"], command + ["why"]
 
 
 def tell(lines, name, command, with_table):
     """The transcript; the number of expectations that were not met."""
-    teller, pieces, size = Teller(with_table), [], stream.PIECE
-    for line, played in playing(lines, command):
-        pieces.append(teller.line(line, played))
-        size += len(pieces[-1])
-        if size > stream.PIECE // 4:
-            put("".join(pieces).encode())
-            pieces, size = [], 0
-    put(("".join(pieces) + teller.ending()).encode())
+    teller = Teller(with_table)
+    for some, turns in stream.played(lines, *programs(command)):
+        if some:
+            put("".join(teller.lines(some, turns)).encode())
+    put(teller.ending().encode())
     for line, came in teller.failed:
         print(unmet(name, line, came), file=sys.stderr)
     return len(teller.failed)
@@ -91,9 +88,9 @@ def unmet(name, line, came):
 def check(lines, name, command):
     """Prints only what was not as expected; the number of such lines."""
     teller = Teller()
-    for line, played in playing(lines, command):
+    for line, turns in stream.one_by_one(lines, *programs(command)):
         teller.begin(line)
-        came = teller.judge(line, played)
+        came = teller.judge(line, turns)
         if came:
             put((unmet(name, line, came) + "\n").encode())
     if not teller.expected:
@@ -126,8 +123,7 @@ def produce(options, file, command):
         return turn(file, options["--settings"])
     if "--rival" in options:
         stream.ready(command)
-        programs = rival.Programs(*(command + [word] for word in ("check", "trace", "why")))
-        told, right = rival.compare(file, options["--rival"], programs)
+        told, right = rival.compare(file, options["--rival"], rival.Programs(command + ["check"], *programs(command)))
         put(("\n".join(told) + "\n").encode())
         return 0 if right else 1
     text, name = source.opened(file)
@@ -145,7 +141,7 @@ def produce(options, file, command):
             return check(lines, name, command)
         if "--chart" in options:
             from tools.pictures import played  # the pictures are needed here alone
-            return played.write(playing(lines, command), name, options["--chart"])
+            return played.write(stream.one_by_one(lines, *programs(command)), name, options["--chart"])
         return tell(lines, name, command, "--table" in options)
 
 

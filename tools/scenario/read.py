@@ -10,8 +10,9 @@ from .suggest import one_of
 from .values import LONGEST_STEP, Fault, cut, duration, microseconds, number, octets, steps
 
 # An event: its record, kind ('frame', 'prim', 'links', 'clock'), the peer it names, the primitive's number,
-# the octets of a frame, whether the scenario gives these by themselves, and what there is of it to be told again.
-Event = collections.namedtuple("Event", "record kind peer primitive frame raw gist")
+# the octets of a frame, whether the scenario gives these by themselves, and what its words depend on, where it is done and where it has
+# nothing to do; where it is refused that is the record.
+Event = collections.namedtuple("Event", "record kind peer primitive frame raw gist idle")
 # A line with its number, its events, the settings, the expectation and the name that it gives, and a remark of the tool.
 Line = collections.namedtuple("Line", "at text events settings expect remark named",
                               defaults=((), None, None, "", None))
@@ -31,6 +32,8 @@ MOST_KEPT = 4096
 # The first octets of data frames: of what follows in these nothing is told.
 DATA = {bench.frame_control(bench.DATA, subtype)[:1] for subtype in range(16)}
 SAMPLE = "02:00:00:00:00:0a"
+# How no record begins.
+NO_RECORD = b"\0"
 
 
 def _field(word, known, what):
@@ -56,6 +59,11 @@ def pairs(words, known, what):
             raise Fault(f"{last} is given twice: once is enough")
         given[last] = value
     return given
+
+
+def _own(record, kind, peer, primitive, gist):
+    """An event that is no frame."""
+    return Event(record, kind, peer, primitive, b"", False, gist, record)
 
 
 class Reader:
@@ -194,8 +202,9 @@ class Reader:
     @staticmethod
     def _heard(laid, raw=False):
         peer, record = laid[10:16] if frames.names_peer(laid) else None, bench.frame(laid)
-        told = peer, laid[:2], b"" if laid[:1] in DATA else laid[24:26]
-        return Event(record, "frame", peer, 0, laid, raw, record if raw else told)
+        data = laid[:1] in DATA
+        gist = record if raw else b"".join((NO_RECORD, peer or b"", laid[:2], b"" if data else laid[24:26]))
+        return Event(record, "frame", peer, 0, laid, raw, gist, gist if data else record)
 
     def _prim(self, words):
         if len(words) < 2:
@@ -210,8 +219,7 @@ class Reader:
             raise Fault(f"{row.code} and code are one field: give one of them")
         text = given.get(row.code, given.get("code", str(row.default)))
         code = number(text, next(iter(given), row.code), 0xFFFF)
-        return [Event(bench.primitive(row.number, peer, code), "prim", peer, row.number, b"", False, (row.number, peer))
-                for peer in peers]
+        return [_own(bench.primitive(row.number, peer, code), "prim", peer, row.number, (row.number, peer)) for peer in peers]
 
     def _links(self, words):
         if len(words) < 2:
@@ -220,7 +228,7 @@ class Reader:
         links = self.several(words[1:], "links DEVICE none")
         if len(links) > MOST_LINKS:
             raise Fault(f"{len(links)} links: at most {MOST_LINKS} can be given")
-        return [Event(bench.links(device, links), "links", device, 12, b"", False, (12, device))]
+        return [_own(bench.links(device, links), "links", device, 12, (12, device))]
 
     def several(self, words, form):
         """A list of links, one by one or as ranges; 'none' stands for no link."""
@@ -234,7 +242,7 @@ class Reader:
         if len(words) != 1:
             raise Fault("a clock line is: clock TIME, as clock 100 for 100 TU, clock 2s or clock 500ms")
         whole, over = duration(words[0])
-        made = [Event(bench.clock(step), "clock", None, 0, b"", False, "clock") for step in steps(whole)]
+        made = [_own(bench.clock(step), "clock", None, 0, "clock") for step in steps(whole)]
         said = "" if words[0].isdigit() else f"{words[0]} is {whole} TU"
         said += f"; {microseconds(over)} left over" if over else ""
         if len(made) > 1:

@@ -13,7 +13,7 @@ import sys
 import tempfile
 
 from . import codes, source, stream, words
-from .answers import LINE, WHY, BenchFault
+from .answers import LINE, WHY, BenchFault, read
 from .because import because
 from .laid import laid
 from .show import Teller
@@ -103,13 +103,13 @@ def rule(one, settings, say):
 def event_words(lines, programs, number):
     """The words of our own answer to an event: the scenario's line, the plain line, what it did, and the rule."""
     teller = Teller()
-    for line, played in stream.played(lines, programs.trace, programs.why):
+    for line, turns in stream.one_by_one(lines, programs.trace, programs.why):
         teller.begin(line)
-        for one in played:
-            event, answer, before = one
-            if answer.number == number:
+        for turn in turns:
+            if turn[1] == number:
+                event, answer, before = one = read(turn)
                 say = teller.names.say
-                whose = f" (for {say(event.peer)})" if len(played) > 1 and event.peer else ""
+                whose = f" (for {say(event.peer)})" if len(turns) > 1 and event.peer else ""
                 plain = " ".join(str(field) for field in answer[:8])
                 did = words.tell(event, answer, before, teller.settings, say)
                 return line, visible(line.text) + whose, plain, did, rule(one, teller.settings, say)

@@ -1,24 +1,16 @@
 """The scenario told back: its own lines, and below each what the table answered."""
 
+import itertools
+
 from tools import bench_input as bench
 
 from . import codes, expect, merge, words
+from .again import INDENT, Again, below
+from .answers import read
 from .names import Names
-from .read import DATA
 from .values import visible
 
-INDENT = "    "
-EACH = "each"
-MOST_KEPT = 8192
-# Refusals that are told with other records than the peer's; so is refusal 7 of primitive 4.
-OF_OTHERS = (3, 9)
-ELSEWHERE = 7, 4
 PROTECTION = {0: "management frames not protected", 1: "management frames protected"}
-
-
-def below(number, text):
-    """A text that has the event's number before its first line: the others stand below that."""
-    return text.replace("\n", "\n" + " " * len(f"{INDENT}{number}  ")) if "\n" in text else text
 
 
 def _numbered(number, text):
@@ -50,49 +42,60 @@ class Teller:
     def __init__(self, with_table=False):
         self.names, self.settings, self.with_table = Names(), None, with_table
         self.expected, self.failed = 0, []
-        # What was told of events with numbers below this one, all of the same width.
-        self._played, self._kept, self._wider = [], {}, 1
+        self._turns, self._again, self._each = [], Again(self.names.say), Again(self.names.say, "each")
 
     def begin(self, line):
         """Takes what a line says of names and settings; the words for settings, else none."""
         if not line.named and not line.settings:
             return []
-        self._kept.clear()
+        self._again.begin(line.settings)
+        self._each.begin(line.settings)
         if line.named:
             self.names.define(*line.named)
             return []
-        again, self.settings, self._wider = self.settings is not None, line.settings, 1
+        again, self.settings = self.settings is not None, line.settings
         self.names.set_own(line.settings.own)
         return [_settings(line.settings, again, self.names.say)]
 
-    def judge(self, line, played):
+    def judge(self, line, turns):
         """What came in place of what a line expects, '' where it is met or expects nothing."""
-        self._played = played or self._played
+        self._turns = turns or self._turns
         if not line.expect:
             return ""
         self.expected += 1
-        came = expect.judge(line.expect, self._played, self.names.say)
+        came = expect.judge(line.expect, [read(turn) for turn in self._turns], self.names.say)
         if came:
             self.failed.append((line, came))
         return came
 
-    def line(self, line, played):
+    def lines(self, lines, turns):
+        """Some lines of the scenario, each with what is told below it; the turns are those of all of them."""
+        told, turns, words_, plain, turn = [], iter(turns), self._again.words, not self.with_table, None
+        for line in lines:
+            _, text, events, _, _, remark, _ = line
+            # Most lines are so, and need no more.
+            if len(events) == 1 and plain and not remark and text.isprintable():
+                turn = next(turns)
+                told.append(f"{text}\n{INDENT}{turn[1]}  {words_(turn)}\n")
+                continue
+            self._turns, turn = [turn] if turn else self._turns, None
+            told.append(self.line(line, list(itertools.islice(turns, len(events)))))
+        self._turns = [turn] if turn else self._turns
+        return told
+
+    def line(self, line, turns):
         """A line of the scenario and what is told below it."""
         text = line.text if line.text.isprintable() else visible(line.text)
-        if line.named or line.settings or line.remark or len(played) > 1 or self.with_table:
-            text = "\n".join([text, *self._beside(line, played)])
-        elif played:
-            text = f"{text}\n{INDENT}{played[0][1].number}  {self._again(played[0])}"
-        self._played = played or self._played
-        came = self.judge(line, played) if line.expect else ""
+        text = "\n".join([text, *self._beside(line, turns)])
+        came = self.judge(line, turns)
         return f"{text}\n{INDENT}NOT MET: {came}\n" if came else text + "\n"
 
-    def _beside(self, line, played):
-        """What is told below a line that is more than one event."""
+    def _beside(self, line, turns):
+        """What is told below a line of settings and events."""
         told = self.begin(line)
         if line.remark:
             told.append(INDENT + line.remark)
-        return told + (self._events(played) if len(played) > 1 else [self._one(one) for one in played])
+        return told + (self._events(turns) if len(turns) > 1 else [self._one(turn) for turn in turns])
 
     def ending(self):
         """How many expectations there were, and how many were met; nothing where there were none."""
@@ -102,62 +105,28 @@ class Teller:
         lines = ", ".join(str(line.at) for line, _ in self.failed)
         return f"{each}, " + (f"{len(self.failed)} not met: line {lines}\n" if self.failed else "all met\n")
 
-    def _events(self, played):
+    def _events(self, turns):
         """What the events of one line did; those that did alike are told once."""
         if self.with_table:
-            return [self._one(one) for one in played]
-        if played[0][0].kind == "clock":
-            text = "\n".join(words.steps(played, self.names.say))
-            return [_numbered(f"{played[0][1].number}..{played[-1][1].number}", text)]
-        texts = [self._said(one, EACH) for one in played]
-        told = []
+            return [self._one(turn) for turn in turns]
+        if turns[0][0].kind == "clock":
+            text = "\n".join(words.steps([read(turn) for turn in turns], self.names.say))
+            return [_numbered(f"{turns[0][1]}..{turns[-1][1]}", text)]
+        texts, told = tuple([self._each.words(turn) for turn in turns]), []
         for at, count in merge.runs(texts):
-            first, last = played[at], played[at + count - 1]
+            first, last = turns[at], turns[at + count - 1]
             if count == 1:
                 told.append(self._one(first))
             else:
                 peers = f"{self.names.say(first[0].peer)} to {self.names.say(last[0].peer)}"
                 text = merge.joined(texts[at], texts[at + count - 1])
-                told.append(_numbered(f"{first[1].number}..{last[1].number}",
-                                      f"{count} events, one for each of {peers}:\n{text}"))
+                told.append(_numbered(f"{first[1]}..{last[1]}", f"{count} events, one for each of {peers}:\n{text}"))
         return told
 
-    def _one(self, one):
+    def _one(self, turn):
         """An event with its number, and with the table after it where that is wanted."""
-        number = one[1].number
-        text = f"{INDENT}{number}  {self._again(one)}"
+        number = turn[1]
+        text = f"{INDENT}{number}  {self._again.words(turn)}"
         if self.with_table:
-            text += below(number, "\n" + "\n".join(words.table(one[1], self.names.say)))
+            text += below(number, "\n" + "\n".join(words.table(read(turn)[1], self.names.say)))
         return text
-
-    def _again(self, one):
-        """The words of an event, laid out for its number: those told before where an event of this kind did the same."""
-        event, answer, before = one
-        refusal, table, changed = answer.refusal, answer.table, answer.changed
-        peer = event.peer
-        if peer is not None and peer not in table:
-            peer = words.device(peer, table)
-        if changed and changed != (peer,) or refusal and (refusal in OF_OTHERS or (refusal, event.primitive) == ELSEWHERE):
-            return below(answer.number, self._said(one))
-        if answer.number >= self._wider:
-            self._kept.clear()
-            self._wider = 10 ** len(str(answer.number))
-        if refusal:
-            key = event.record, refusal, answer.value
-        else:
-            whole = answer.reason == "group-rule" or answer.reason == "nothing-to-do" and event.frame[:1] not in DATA
-            what = event.record if whole else event.gist
-            key = what, answer[2:10], answer.value, before.get(peer), table.get(peer) if changed else ()
-        told = self._kept.get(key)
-        if told is None:
-            if len(self._kept) >= MOST_KEPT:
-                self._kept.clear()
-            told = self._kept[key] = below(answer.number, self._said(one))
-        return told
-
-    def _said(self, one, name=None):
-        """The words of an event as one text; the peer goes by the name given, if any."""
-        event, answer, before = one
-        say = self.names.say
-        call = (lambda address: name if address == event.peer else say(address)) if name else say
-        return "\n".join(words.tell(event, answer, before, self.settings, call))

@@ -1,6 +1,7 @@
 """Plays lines on the bench program as they come: octets go in and answers come out, neither waiting for the other."""
 
-import collections
+import bisect
+import itertools
 import os
 import pathlib
 import platform
@@ -9,14 +10,16 @@ import shutil
 import subprocess
 import tempfile
 
-from .answers import NEW, NONE, Answer, BenchFault, Reasons, Trace
+from .answers import BenchFault, Outcome
 from .because import fits
+from .blocks import Reasons, Trace
 
 BENCH = [str(pathlib.Path(__file__).resolve().parents[2] / "bench")]
 PIECE = 1 << 16
 SECONDS = 120
 # So many lines are handed on at once; then it is looked what has come.
-OFTEN = 64
+OFTEN = 512
+MOST_KEPT = 4096
 RT = "the Rattle kit's 'rt' is not on the PATH: install the kit, or add its bin folder to PATH"
 
 
@@ -96,22 +99,27 @@ class Run:
         self._read = Trace(), Reasons()
         for child in self._children:
             child.pending += settings.record
-        self._lines, self._fed, self._before = collections.deque(), 0, {}
-        # What was read of each child, and not yet told.
-        self._answers, self._reasons = self._got = collections.deque(), collections.deque()
+        # The lines that are not yet told, how many events each has, and the events that are not yet answered.
+        self._lines, self._counts, self._events, self._fed = [], [], [], 0
+        # What was read of each child, and the turns that were made of it.
+        self._blocks, self._reasons = self._got = [], []
+        self._turns, self._outcomes = [], {}
 
     def add(self, lines):
         """Takes some lines; waits where the program is behind."""
-        octets = b"".join([event.record for line in lines for event in line.events])
-        self._fed += sum([len(line.events) for line in lines])
-        self._lines.extend(lines)
+        events = [event for line in lines for event in line.events]
+        octets = b"".join([event.record for event in events])
+        self._fed += len(events)
+        self._lines += lines
+        self._counts += [len(line.events) for line in lines]
+        self._events += events
         for at, child in enumerate(self._children):
             child.pending += octets
             while len(child.pending) >= PIECE:
                 self._turn(at, True)
 
     def look(self):
-        """The lines that are answered by now, each with its events' answers."""
+        """The lines that are answered by now, and their turns."""
         for at in range(len(self._children)):
             self._turn(at, False)
         return self._answered()
@@ -121,9 +129,9 @@ class Run:
         for at, child in enumerate(self._children):
             while not child.over:
                 self._turn(at, True, True)
-                yield from self._answered()
-        self._answers.extend(self._read[0].take("", True))
-        yield from self._answered()
+                yield self._answered()
+        self._blocks += self._read[0].take("", True)
+        yield self._answered()
         for read, what in zip(self._read, ("answers", "reasons")):
             if read.number != self._fed:
                 raise BenchFault(f"the bench program gave {read.number} {what} to {self._fed} events")
@@ -134,22 +142,27 @@ class Run:
             self._got[at].extend(self._read[at].take(text))
 
     def _answered(self):
-        lines, answers, reasons, before, done = self._lines, self._answers, self._reasons, self._before, []
-        left = min(len(answers), len(reasons))
-        while lines and len(lines[0].events) <= left:
-            line, played = lines.popleft(), []
-            for event in line.events:
-                answer, reason = answers.popleft(), reasons.popleft()
-                if reason is not NONE or answer[1] or answer[2] == "D":
-                    if not fits(answer[1], answer[2], reason[0]):
-                        raise BenchFault(f"the bench program's answer and reason differ at event {answer.number}: {reason[0]}")
-                    answer = NEW(Answer, answer[:-2] + reason)
-                played.append((event, answer, before))
-                before = answer[10]
-            left -= len(played)
-            done.append((line, played))
-        self._before = before
+        """What both children have answered by now made into turns, and the lines that are whole with these."""
+        turns, known, first = self._turns, self._outcomes, self._outcome
+        turns += [(event, number, known.get((said, reason)) or first(number, said, reason), before, after, changed)
+                  for event, (number, said, before, after, changed), reason in zip(self._events, self._blocks, self._reasons)]
+        count = min(len(self._events), len(self._blocks), len(self._reasons))
+        del self._events[:count], self._blocks[:count], self._reasons[:count]
+        ends = list(itertools.accumulate(self._counts))
+        whole = bisect.bisect_right(ends, len(turns))
+        end = ends[whole - 1] if whole else 0
+        done = self._lines[:whole], turns[:end]
+        del self._lines[:whole], self._counts[:whole], turns[:end]
         return done
+
+    def _outcome(self, number, said, reason):
+        """An answer and its reason that come for the first time."""
+        if len(self._outcomes) >= MOST_KEPT:
+            self._outcomes.clear()
+        made = self._outcomes[said, reason] = Outcome(number, said, reason)
+        if not fits(made.refusal, made.verdict, made.reason):
+            raise BenchFault(f"the bench program's answer and reason differ at event {number}: {made.reason}")
+        return made
 
     def end(self):
         for child in self._children:
@@ -157,8 +170,8 @@ class Run:
 
 
 def played(lines, trace, why):
-    """Each line with its events: the event, its answer, and the table before it. The program is run twice, for its
-    trace and for its reasons."""
+    """Some lines, and the turns that their events were, over and over. A turn is the event, its number and outcome, the rows before and
+    after it, and the pairs of these that differ. The program is run twice, for its trace and for its reasons."""
     run, some = None, []
     try:
         for line in lines:
@@ -169,12 +182,12 @@ def played(lines, trace, why):
                     run.end()
                 run, some = Run(trace, why, line.settings), []
             if run is None:
-                yield line, []
+                yield [line], []
                 continue
             some.append(line)
             if len(some) == OFTEN:
                 run.add(some)
-                yield from run.look()
+                yield run.look()
                 some = []
         if run:
             run.add(some)
@@ -182,6 +195,14 @@ def played(lines, trace, why):
     finally:
         if run:
             run.end()
+
+
+def one_by_one(lines, trace, why):
+    """The same line by line, each with its own turns."""
+    for some, turns in played(lines, trace, why):
+        turns = iter(turns)
+        for line in some:
+            yield line, list(itertools.islice(turns, len(line.events)))
 
 
 def plain(lines, command):

@@ -11,6 +11,7 @@ DS = {"J": "joined", "L": "left"}
 REPORT_OCTETS = 8
 JOIN_CONFIRMS = (6, 8)
 MOST_SHOWN = 24
+NOTHING = "nothing changes"
 # Fields of a frame sent that are shown only where they are not these.
 PLAIN = {"version": 0, "flags": 0, "duration": 0, "sequence": 0, "to-ds": 0, "from-ds": 0,
          "elements": b"", "body": b"", "category": None}
@@ -35,8 +36,10 @@ def exchange(record):
 
 def query(record):
     """The SA Query of a record, '' where there is none."""
+    if record.query == 0:
+        return ""
     number = f"SA Query {record.identifier}"
-    return {0: "", 1: f"{number} runs, {record.query_left} TU left for the answer",
+    return {1: f"{number} runs, {record.query_left} TU left for the answer",
             2: f"{number} runs, its request is due, {record.query_left} TU left",
             3: f"{number} timed out: the next request passes"}[record.query]
 
@@ -125,21 +128,23 @@ def notice(answer, say):
     return text
 
 
-def records(event, answer, before, say):
-    """The peer's record, and every other that is not as it was."""
+def peer_record(event, answer, before, say):
+    """The peer's record, in one line or none."""
     after = answer.table
-    lines, peer = [], device(event.peer, after)
+    peer = device(event.peer, after)
     if peer in after:
         rejected = answer.notice in JOIN_CONFIRMS and answer.code != 0
-        lines.append(change(say, before.get(peer), after[peer], rejected))
-    elif peer is not None:
-        lines.append(f"{say(peer)}: no record")
-    return lines + others(answer.changed, before, after, say, peer)
+        return [change(say, before.get(peer), after[peer], rejected)]
+    return [f"{say(peer)}: no record"] if peer is not None else []
 
 
 def others(changed, before, after, say, peer=None):
     """The records that are not as they were, but for the peer's."""
-    told = [change(say, before.get(address), after.get(address)) for address in changed if address != peer]
+    return together([change(say, before.get(address), after.get(address)) for address in changed if address != peer])
+
+
+def together(told):
+    """Lines on records that are not the peer's, those that count on made one."""
     return merge.lines(told) if len(told) > 2 else told
 
 
@@ -150,7 +155,7 @@ def steps(played, say):
     places = {**before, **after}
     changed = [address for address in sorted(places, key=lambda known: places[known].place)
                if before.get(address) != after.get(address)]
-    return reports(octets, say) + others(changed, before, after, say) or ["nothing changes"]
+    return reports(octets, say) + others(changed, before, after, say) or [NOTHING]
 
 
 def decided(event, answer, before, settings, say):
@@ -163,12 +168,12 @@ def decided(event, answer, before, settings, say):
     return VERDICTS.get(answer.verdict, "")
 
 
-def tell(event, answer, before, settings, say):
-    """The lines that say what an event did."""
+def own(event, answer, before, settings, say):
+    """The lines that say what an event did, but for the records of others."""
     lines = ["heard as " + frame(event.frame, say)] if event.raw and frames.decode(event.frame) else []
     verdict = decided(event, answer, before, settings, say)
     if answer.refusal and not answer.changed and not answer.octets:
-        return lines + [f"{verdict}; nothing changes"]
+        return lines + [f"{verdict}; {NOTHING}"]
     lines += [verdict] if verdict else []
     if answer.notice:
         lines.append(notice(answer, say))
@@ -176,8 +181,13 @@ def tell(event, answer, before, settings, say):
         lines += reports(answer.octets, say) if event.kind == "clock" else [sent(answer.octets, say)]
     if answer.ds in DS:
         lines.append(f"tells the distribution system: {DS[answer.ds]}")
-    lines += records(event, answer, before, say)
-    return lines or ["nothing changes"]
+    return lines + peer_record(event, answer, before, say)
+
+
+def tell(event, answer, before, settings, say):
+    """The lines that say what an event did."""
+    lines = own(event, answer, before, settings, say)
+    return lines + others(answer.changed, before, answer.table, say, device(event.peer, answer.table)) or [NOTHING]
 
 
 def table(answer, say):
