@@ -15,6 +15,7 @@ pub mod LinksStay
 pub mod LinkKeeps
 pub mod StepKeeps
 pub mod RuledRecords
+pub mod RuledExamples
 pub mod Links
 pub mod LinkFrames
 pub mod DiscardLeaves
