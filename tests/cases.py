@@ -1,11 +1,14 @@
-"""Runs the stored cases: python3 -m tests.cases --bench CMD [--trace-too[=WORD]] [--why[=WORD]] [NAME ...].
+"""Runs the stored cases, in each way to print that is asked for.
+
+python3 -m tests.cases --bench CMD [--trace-too[=WORD]] [--why[=WORD]] [--changes] [NAME ...]
 
 A case is a folder of tests/cases: `about` says in one line what it shows, `input.hex` is the
 bench input, one record a line and `#` to the end of a line a comment, `stdout` is what the
 rules give, worked out by hand. With --trace-too each case is run once more with the argument
 WORD (`trace` if not given): the lines of its events among the trace must be the same ones.
 A case may have a file `why` beside: with --why it is run with the argument WORD (`why` if not
-given), and must print that file.
+given), and must print that file. With --changes, beside both of them, each case is run with the
+argument `changes` too: what it prints must agree with its trace and reasons (comparison/changes.py).
 """
 
 import argparse
@@ -16,6 +19,8 @@ import re
 import shlex
 import subprocess
 import sys
+
+from .comparison import changes
 
 CASES = pathlib.Path(__file__).resolve().parent / "cases"
 LINE = re.compile(r"\d+ \d+ [AD-] \d+ \d+ \d+ [JL-] \d+|stop")
@@ -52,7 +57,7 @@ def difference(expected, printed):
     return f"expected {len(wanted) - 1} lines, printed {len(got) - 1}"
 
 
-def check(folder, command, trace, why):
+def check(folder, command, trace, why, changed):
     """The faults of one case, as text."""
     octets = read_hex((folder / "input.hex").read_text())
     expected = (folder / "stdout").read_text()
@@ -63,6 +68,9 @@ def check(folder, command, trace, why):
     if why and (folder / "why").exists():
         found = difference((folder / "why").read_text(), run(command + [why], octets))
         faults.append(found and f"with {why}, {found}")
+    if changed:
+        found = changes.check(*(run(command + [word], octets) for word in ("changes", trace, why)))
+        faults.append(found and f"with changes, {found}")
     return [fault for fault in faults if fault]
 
 
@@ -71,14 +79,17 @@ def main():
     parser.add_argument("--bench", required=True)
     parser.add_argument("--trace-too", nargs="?", const="trace", metavar="WORD")
     parser.add_argument("--why", nargs="?", const="why", metavar="WORD")
+    parser.add_argument("--changes", action="store_true", help="with --trace-too and --why")
     parser.add_argument("names", nargs="*", help="only these cases")
     given = parser.parse_args()
+    if given.changes and not (given.trace_too and given.why):
+        parser.error("--changes is held against --trace-too and --why: give both")
     command = shlex.split(given.bench)
     folders = sorted(path for path in CASES.iterdir() if path.is_dir()
                      and (not given.names or path.name in given.names))
-    failed = 0
+    ways, failed = (given.trace_too, given.why, given.changes), 0
     with concurrent.futures.ThreadPoolExecutor(os.cpu_count()) as pool:
-        results = pool.map(lambda folder: check(folder, command, given.trace_too, given.why), folders)
+        results = pool.map(lambda folder: check(folder, command, *ways), folders)
         for folder, faults in zip(folders, results):
             failed += bool(faults)
             for fault in faults:

@@ -1,8 +1,8 @@
 """The numbers of a month, worked out in Python: counted from events, answers and tables, added without end, and
 printed as `over` where they pass 64 bits.
 
-Each number is read off the input, the lines, the trace and the reasons alone: a hold that was set is the
-one that the trace shows behind the event.
+Each number is read off the input and what `changes` prints alone: a hold that was set is the one that is
+shown behind the event.
 """
 
 import fractions
@@ -36,17 +36,17 @@ def hold_set(settings, turn):
     return answer.table[turn.event.body[10:16]].hold
 
 
-def count(octets, printed, said):
-    """The block of one input, by its lines and trace and what `why` said of it."""
+def count(octets, printed):
+    """The block of one input, by what `changes` printed of it."""
     block, holds = empty(), []
     settings, played = turns.read(octets, printed)
-    for turn, line in zip(played, said.splitlines()):
-        answer, word = turn.answer, line.split(" ")[1]
+    for turn in played:
+        answer = turn.answer
         block["events"][0] += 1
         if answer.refusal:
             block["refusals"][answer.refusal - 1] += 1
         if answer.verdict == "D":
-            block["discards"][DISCARDS.index(word)] += 1
+            block["discards"][DISCARDS.index(answer.reason)] += 1
         block["joins"][0] += answer.ds == "J"
         block["leaves"][0] += answer.ds == "L"
         if turn.event.kind == bench.CLOCK:

@@ -1,12 +1,13 @@
 """Runs two programs on generated bench inputs and compares what they print, octet for octet.
 
 python3 -m tests.comparison.compare --left CMD --right CMD [--seed S] [--count N] [--kind NAME]
-                                    [--trace | --why] [--keep DIR]
+                                    [--trace | --why | --changes] [--keep DIR]
 
 With --trace the left command gets the argument `trace` and the right `-v`. With --why both get `why`,
-and the reasons that they print are held against the right's lines and trace (reasons.py). Ends with 1
-where any output differs, where a reason does not agree with its answer, or where some value that a
-line can hold was never seen.
+and the reasons that they print are held against the right's lines and tables (reasons.py). With --changes
+both get `changes`, and what each prints is held against its own trace and reasons (changes.py). Ends with
+1 where any output differs, where a reason does not agree with its answer or changes with their trace and
+reason, or where some value that a line can hold was never seen.
 """
 
 import argparse
@@ -20,7 +21,7 @@ import subprocess
 import sys
 import tempfile
 
-from . import generate, reasons
+from . import changes, generate, reasons
 
 LINE = re.compile(rb"^(\d+) (\d+) (\S) (\d+) (\d+) (\d+) (\S) (\d+)$", re.MULTILINE)
 EVENT = re.compile(rb"^(\d+) (?:\d+ \S \d+ \d+ \d+ \S|\S+) \d+$")
@@ -31,6 +32,15 @@ WANTED = ((1, "refusal", "0 2 3 4 5 6 7 8 9".split()), (2, "verdict", ["A", "D",
           (7, "state", [str(n) for n in range(5)]))
 REASON = re.compile(rb"^(\d+) (\S+) (\d+)$", re.MULTILINE)
 REASONS_WANTED = ((1, "reason", list(reasons.WORDS)),)
+# The lines behind an event's own, of which every first word must be seen.
+SHOWN = re.compile(rb"^(  )(\w+) ", re.MULTILINE)
+SHOWN_WANTED = ((1, "shown", "octets current because free place links query".split()),)
+# For each way to print the words that ask the left and the right program for it, and the lines looked at,
+# those of the events first, with what is wanted of them.
+ASKED = {"plain": ([], []), "trace": (["trace"], ["-v"]), "why": (["why"], ["why"]),
+         "changes": (["changes"], ["changes"])}
+LOOKED_AT = {"plain": ((LINE, WANTED),), "trace": ((LINE, WANTED),), "why": ((REASON, REASONS_WANTED),),
+             "changes": ((LINE, WANTED), (SHOWN, SHOWN_WANTED))}
 EXEMPT = "refusal 1 is exempt: the bench lends 256 bytes to every event"
 SECONDS = 120
 
@@ -62,25 +72,39 @@ def first_difference(left, right):
     return 0, "0", "", ""
 
 
-def count_lines(output, why):
-    counts = collections.Counter()
-    lines = (REASON if why else LINE).findall(output)
-    for field, what, _ in REASONS_WANTED if why else WANTED:
-        counts.update((what, line[field].decode()) for line in lines)
-    return len(lines), counts
+def count_lines(output, way):
+    """How many events have a line, and how often each value was seen."""
+    counts, events = collections.Counter(), None
+    for pattern, wanted in LOOKED_AT[way]:
+        lines = pattern.findall(output)
+        events = len(lines) if events is None else events
+        for field, what, _ in wanted:
+            counts.update((what, line[field].decode()) for line in lines)
+    return events, counts
 
 
-def unreasoned(octets, said, plain):
-    """What is wrong with the reasons, by the lines and trace of the plain command."""
-    printed, end = run(plain, octets)
+def unreasoned(octets, said, right):
+    """What is wrong with the reasons, by the lines and tables of the right command."""
+    printed, end = run(right + ["changes"], octets)
     return f"right {end}" if end else reasons.check(octets, said.decode("ascii"), printed.decode("ascii"))
 
 
-def compare(job, left, right, plain):
-    """One input through both programs, and where a plain command is given their reasons beside its lines
-    and trace. Runs in a worker, so it returns plain values."""
+def unfounded(octets, said, left, right):
+    """What is wrong with the changes that both print, by the trace and the reasons of each."""
+    for side, command, trace in (("left", left, "trace"), ("right", right, "-v")):
+        (printed, end), (why, why_end) = run(command + [trace], octets), run(command + ["why"], octets)
+        fault = end or why_end or changes.check(*(text.decode("ascii") for text in (said, printed, why)))
+        if fault:
+            return f"{side}: {fault}"
+    return None
+
+
+def compare(job, left, right, way):
+    """One input through both programs in a way to print, and what they print so beside what they print in
+    others. Runs in a worker, so it returns plain values."""
     octets = generate.make(job)
-    (left_out, left_end), (right_out, right_end) = run(left, octets), run(right, octets)
+    (left_out, left_end), (right_out, right_end) = (
+        run(command + words, octets) for command, words in zip((left, right), ASKED[way]))
     fault = None
     if left_end or right_end:
         fault = f"left {left_end or 'ended well'}, right {right_end or 'ended well'}"
@@ -88,18 +112,20 @@ def compare(job, left, right, plain):
         line, event, left_line, right_line = first_difference(left_out, right_out)
         fault = (f"differs at line {line}, event {event}\n"
                  f"  left  {left_line}\n  right {right_line}")
-    elif plain:
-        fault = unreasoned(octets, left_out, plain)
-    lines, counts = count_lines(left_out, plain)
+    elif way == "why":
+        fault = unreasoned(octets, left_out, right)
+    elif way == "changes":
+        fault = unfounded(octets, left_out, left, right)
+    lines, counts = count_lines(left_out, way)
     if fault is None and job.kind != "damaged" and lines < job.events:
         fault = f"only {lines} lines for at least {job.events} events"
     return Outcome(job.name, job.kind, lines, counts, fault, octets if fault else b"")
 
 
-def print_counts(counts, why):
+def print_counts(counts, way):
     """The table of what was seen; returns what never was."""
     missing = []
-    for _, what, values in REASONS_WANTED if why else WANTED:
+    for _, what, values in (one for _, wanted in LOOKED_AT[way] for one in wanted):
         seen = {value: n for (named, value), n in counts.items() if named == what}
         print(f"{what:8}" + "  ".join(f"{value}:{seen[value]}" for value in sorted(seen)))
         missing += [f"{what} {value}" for value in values if value not in seen]
@@ -115,30 +141,26 @@ def arguments():
     parser.add_argument("--count", type=int, default=300_000)
     parser.add_argument("--kind", choices=generate.KINDS, help="only inputs of this kind")
     shown = parser.add_mutually_exclusive_group()
-    shown.add_argument("--trace", action="store_true")
-    shown.add_argument("--why", action="store_true")
+    for way in ("trace", "why", "changes"):
+        shown.add_argument(f"--{way}", dest="way", action="store_const", const=way, default="plain")
     parser.add_argument("--keep", type=pathlib.Path, help="where inputs that differ are kept")
     return parser.parse_args()
 
 
 def main():
     given = arguments()
-    left, right, plain = shlex.split(given.left), shlex.split(given.right), None
-    if given.trace:
-        left, right = left + ["trace"], right + ["-v"]
-    if given.why:
-        left, right, plain = left + ["why"], right + ["why"], right + ["-v"]
+    left, right = shlex.split(given.left), shlex.split(given.right)
     jobs = generate.plan(given.seed, given.count, given.kind)
     counts, events, faults = collections.Counter(), 0, []
     with concurrent.futures.ProcessPoolExecutor(os.cpu_count()) as pool:
         for outcome in pool.map(compare, jobs, [left] * len(jobs), [right] * len(jobs),
-                                [plain] * len(jobs), chunksize=4):
+                                [given.way] * len(jobs), chunksize=4):
             counts.update(outcome.counts)
             events += outcome.lines
             if outcome.fault:
                 faults.append(outcome)
     print(f"seed {given.seed}: {len(jobs)} inputs, {events} events compared")
-    missing = print_counts(counts, given.why)
+    missing = print_counts(counts, given.way)
     if faults:
         keep = given.keep or pathlib.Path(tempfile.mkdtemp(prefix="compare-"))
         keep.mkdir(parents=True, exist_ok=True)

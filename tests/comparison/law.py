@@ -1,8 +1,8 @@
-"""Class 3 only after joining: the law, checked on runs from their input, lines and traces alone.
+"""Class 3 only after joining: the law, checked on runs from their input, lines and changes alone.
 
 python3 -m tests.comparison.law --program CMD.. [--seed S] [--count N]
 
-A CMD has its word for the trace. A class 3 frame of version 0 that is not refused is admitted exactly if
+A CMD has its word for changes. A class 3 frame of version 0 that is not refused is admitted exactly if
 its sender has an accepted association with no teardown after it, and that association came after an
 accepted authentication with no deauthentication between them (history.py). Ad hoc networks are left out.
 Class 3 frames are put into the generator's inputs so that each case comes up: they change no record.

@@ -3,7 +3,7 @@
 
 python3 -m tests.comparison.months --left CMD --right CMD [--seed S] [--count N] [--totals N]
 
-The right command prints the lines and traces (`-v`) and the reasons (`why`) that are counted from.
+The right command prints the changes that are counted from.
 """
 
 import argparse
@@ -34,9 +34,8 @@ def run(command, octets=b""):
 def counted(path, right):
     """The block of one file, and whether it stops. Runs in a worker."""
     octets = path.read_bytes()
-    printed, _ = run(right + ["-v"], octets)
-    said, _ = run(right + ["why"], octets)
-    return block.count(octets, printed, said), printed.endswith("stop\n")
+    printed, _ = run(right + ["changes"], octets)
+    return block.count(octets, printed), printed.endswith("stop\n")
 
 
 def blocks_of(printed):

@@ -1,4 +1,4 @@
-"""Whether the reasons that `why` prints agree with the answers: from the input, the lines and the traces alone.
+"""Whether the reasons that `why` prints agree with the answers: from the input and what `changes` prints, its reasons left out.
 
 A refusal's number is named exactly where the line has it, a rule that discards exactly where the verdict
 is D, nothing-to-do exactly where a frame is admitted and nothing is noticed, written or changed, and none
@@ -60,7 +60,7 @@ def value_of(word, turn):
 
 def check(octets, said, printed):
     """The first event whose reason does not agree, as text, or None; `said` is what `why` printed of the
-    octets, `printed` the lines and trace."""
+    octets, `printed` what `changes` did."""
     _, played = turns.read(octets, printed)
     lines = said.splitlines()
     stopped = ["stop"] if printed.endswith(turns.STOP) else []

@@ -2,10 +2,10 @@
 
 python3 -m tests.comparison.steps --program CMD.. [--seed S] [--count N]
 
-A CMD has its word for the trace. Steps that follow one another, of a sum of at most 65,535 that reaches
+A CMD has its word for changes. Steps that follow one another, of a sum of at most 65,535 that reaches
 no retry of a running query, give way to other steps of the same sum. Behind them the table must be the
 same, and so must their reports together, sorted by place, octet for octet; and every other event must
-get the same answer, octets and table. All this is read off the lines and traces of the one program.
+get the same answer, octets and table. All this is read off the lines and changes of the one program.
 """
 
 import collections

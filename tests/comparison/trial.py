@@ -41,7 +41,7 @@ def try_program(check, wanted, jobs, command):
 
 
 def main(name, about, check, wanted, skipped, count):
-    """The command line of such a test; each program is given with its word for the trace."""
+    """The command line of such a test; each program is given with its word for changes."""
     parser = argparse.ArgumentParser(description=about.splitlines()[0])
     parser.add_argument("--program", required=True, nargs="+", metavar="CMD")
     parser.add_argument("--seed", type=int, default=1)

@@ -1,17 +1,17 @@
 """A bench input beside what a program printed of it: each event with its answer and the table before it.
 
 Nothing here knows a rule: the events are the input's records, and the answers and tables are those of
-the program's own lines and trace.
+the program's own lines and of the changes behind them.
 """
 
 import collections
 import subprocess
 
 from tools import bench_input as bench
-from tools.scenario import answers
+from tools.scenario import answers, blocks
 
 Event = collections.namedtuple("Event", "kind body")
-# The table before and after is by address, in rising place; its rows are those of the trace.
+# The table before and after is by address; its rows are those that the program showed last.
 Turn = collections.namedtuple("Turn", "event answer before")
 Settings = collections.namedtuple("Settings", "role own rsna authentication_timeout association_timeout "
                                   "edition protection query_retry query_maximum network")
@@ -49,7 +49,7 @@ def read(octets, printed):
     count = sum(not line.startswith(" ") for line in printed.splitlines())
     if not every or not count:
         return None, []
-    found = answers.read_trace(printed)
+    found = blocks.answers(printed)
     if len(found) != count:
         raise answers.BenchFault(f"{len(found)} answers are read from {count} lines")
     tables = [{}] + [answer.table for answer in found]
@@ -71,7 +71,7 @@ def printed_by(command, octets):
 
 
 def play(command, octets):
-    """The same of what a command, with its word for the trace, prints of the octets."""
+    """The same of what a command, with its word for changes, prints of the octets."""
     return read(octets, printed_by(command, octets))
 
 

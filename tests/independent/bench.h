@@ -40,5 +40,7 @@ uint64_t bench_link_in(const uint8_t *body, size_t place);
 /* What is printed of an event (lines.c). */
 int bench_line(char *text, size_t size, const struct bench *b);
 void bench_trace(const struct bench *b);
+void bench_beside(const struct bench *b);
+void bench_place(int place, const struct pt_record *r);
 
 #endif

@@ -48,7 +48,7 @@ static void print_links(int place, const struct pt_record *r)
 }
 
 /* A place that is not free, with its links, and with its query where there is or was one. */
-static void print_place(int place, const struct pt_record *r)
+void bench_place(int place, const struct pt_record *r)
 {
     unsigned exchange = r->phase == PT_NONE ? 0 : (r->phase - 1u) * 3 + r->kind;
 
@@ -61,8 +61,8 @@ static void print_place(int place, const struct pt_record *r)
                (unsigned)r->query, r->query_left);
 }
 
-/* The octets written, the current AP of a reassociation indication, the places not free. */
-void bench_trace(const struct bench *b)
+/* The octets written, and the current AP of a reassociation indication. */
+void bench_beside(const struct bench *b)
 {
     if (b->answer.written > 0) {
         printf("  octets ");
@@ -74,7 +74,13 @@ void bench_trace(const struct bench *b)
         print_address(b->answer.current);
         putchar('\n');
     }
+}
+
+/* What stands beside the answer, then the places not free. */
+void bench_trace(const struct bench *b)
+{
+    bench_beside(b);
     for (int i = 0; i < PT_PLACES; i++)
         if (b->table[i].state != 0)
-            print_place(i, &b->table[i]);
+            bench_place(i, &b->table[i]);
 }

@@ -5,6 +5,7 @@
  *   independent                           one line for each event
  *   independent -v                        trace lines after each event's line (README.md)
  *   independent why                       one line for each event: number, the rule that decided, value
+ *   independent changes                   its line, octets and rule, and the places it changed (README.md)
  *   independent import SETTINGS CAPTURE   the bench records of a capture (import.c)
  *   independent month FILE..              counts of each bench file and of all together (month.c)
  *   independent total                     one block for those on standard input (total.c)
@@ -12,6 +13,7 @@
  *
  * Exit status 0, also after `stop`; 1 on a read or write error; 2 on other words.
  */
+#include "changes.h"
 #include "check.h"
 #include "import.h"
 #include "month.h"
@@ -47,6 +49,17 @@ static void tell_why(struct bench *b)
     printf("%" PRIu64 " %s %" PRIu32 "\n", b->events, reason.word, reason.value);
 }
 
+/* Here too the reason is that of the table before, which is kept to see what became other. */
+static void tell_changes(struct bench *b)
+{
+    struct reason reason = why_of(&b->settings, b->table, &b->in, SCRATCH);
+    struct pt_record before[PT_PLACES];
+
+    memcpy(before, b->table, sizeof before);
+    tell_line(b);
+    changes_print(b, before, reason);
+}
+
 /* Takes events one after the other until the input ends, faults, or output fails. */
 static int each_event(void (*tell)(struct bench *))
 {
@@ -72,6 +85,8 @@ static int run_words(int words, char **word)
         return each_event(tell_trace);
     if (words == 1 && strcmp(word[0], "why") == 0)
         return each_event(tell_why);
+    if (words == 1 && strcmp(word[0], "changes") == 0)
+        return each_event(tell_changes);
     if (words == 3 && strcmp(word[0], "import") == 0)
         return import_capture(word[1], word[2]);
     if (words >= 2 && strcmp(word[0], "month") == 0)

@@ -1,6 +1,6 @@
 """Plays the scenes of the message charts and checks the pictures.
 
-python3 -m tests.pictures.check --bench CMD [--trace WORD]
+python3 -m tests.pictures.check --bench CMD
 
 Each step's line, the octets written and the peer's hold and query must be the scene's; where a scene
 has two sides, the octets that one side hears are those that the other wrote, unless they are forged.
@@ -25,11 +25,10 @@ from . import situations
 EXAMPLES = pathlib.Path(__file__).resolve().parents[2] / "examples"
 
 
-def told(said):
-    """The octets written, in hexadecimal, and the one record's hold and query, of an event's lines."""
+def told(said, rows):
+    """The octets written, in hexadecimal, of an event's lines, and the one record's hold and query after it."""
     octets = "".join(line.split()[1] for line in said if line.startswith("  octets "))
-    rows = list(situations.rows(said).values())
-    return octets, [row.hold for row in rows], [row[4:7] for row in rows]
+    return octets, [row.hold for row in rows.values()], [row[4:7] for row in rows.values()]
 
 
 def played(name, scene, side, command):
@@ -39,8 +38,8 @@ def played(name, scene, side, command):
     if len(said) != len(mine):
         return [f"{name}, {side}: {len(mine)} steps, {len(said)} lines"]
     faults = []
-    for number, (step, lines) in enumerate(zip(mine, said), 1):
-        octets, holds, queries = told(lines)
+    for number, (step, lines, places) in enumerate(zip(mine, said, situations.tables(said)), 1):
+        octets, holds, queries = told(lines, situations.rows(places))
         for what, wanted, got in (("line", f"{number} {step.answer}", lines[0]),
                                   ("octets", step.sent.hex(), octets),
                                   ("hold", [step.hold], holds), ("query", [step.query], queries)):
@@ -61,7 +60,7 @@ def unsent(name, steps):
             if octets not in written and octets[0] >> 2 & 3 == bench_input.MANAGEMENT]
 
 
-def charted(trace, why):
+def charted(changes):
     """Charts of the examples, and of a scenario with long names and many peers: no words that overlap or leave
     the picture, and no hold at an access point."""
     texts = {file.name: file.read_text() for file in sorted(EXAMPLES.glob("*.scenario"))}
@@ -72,7 +71,7 @@ def charted(trace, why):
                            + "".join(f"frame data from=02:00:00:00:{n:02x}:77\n" for n in range(9)))
     found = []
     for name, text in texts.items():
-        lines = stream.one_by_one(source.lines(io.StringIO(text), name), trace, why)
+        lines = stream.one_by_one(source.lines(io.StringIO(text), name), changes)
         canvas = played_chart.draw(played_chart.collected(lines), name)
         svg = canvas.svg()
         xml.dom.minidom.parseString(svg)
@@ -87,9 +86,8 @@ def charted(trace, why):
 def main():
     parser = argparse.ArgumentParser(description=__doc__.splitlines()[0])
     parser.add_argument("--bench", required=True)
-    parser.add_argument("--trace", default="trace", metavar="WORD")
     given = parser.parse_args()
-    command = shlex.split(given.bench) + [given.trace]
+    command = shlex.split(given.bench) + ["changes"]
     faults, charts = [], 0
     try:
         for name, scene in scenes.SCENES.items():
@@ -97,7 +95,7 @@ def main():
             for side in sorted({step.side for step in scene.steps}):
                 faults += played(name, scene, side, command)
         faults += [f"{name} is not as tools/pictures/make.py makes it" for name in make.stale()]
-        wrong, charts = charted(command, shlex.split(given.bench) + ["why"])
+        wrong, charts = charted(command)
         faults += wrong
     except (move_list.Fault, situations.Trouble) as fault:
         faults.append(str(fault))

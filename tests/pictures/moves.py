@@ -1,6 +1,6 @@
 """Compares docs/pictures/moves.txt with every move that a program makes.
 
-python3 -m tests.pictures.moves --bench CMD [--trace WORD]
+python3 -m tests.pictures.moves --bench CMD
 
 The moves are derived by trying every event in every situation (situations.py). A move that the
 program makes and the list has not, or the other way round, is named; so is a class of frames that
@@ -85,11 +85,10 @@ def derived(command):
 def main():
     parser = argparse.ArgumentParser(description=__doc__.splitlines()[0])
     parser.add_argument("--bench", required=True)
-    parser.add_argument("--trace", default="trace", metavar="WORD")
     given = parser.parse_args()
     try:
         lines = move_list.read()
-        made, passes, counts = derived(shlex.split(given.bench) + [given.trace])
+        made, passes, counts = derived(shlex.split(given.bench) + ["changes"])
     except (move_list.Fault, situations.Trouble) as fault:
         sys.exit(f"moves: {fault}")
     wanted = expanded(lines)

@@ -2,10 +2,11 @@
 
 A situation is what the two records hold: state, exchange, whether a hold runs, the query, and whether
 there are links. From the empty table each event of the alphabet is tried in each situation found so far,
-until none is new. The program alone says what comes of an event: its trace shows the table.
+until none is new. The program alone says what comes of an event: it shows the places that changed.
 """
 
 import collections
+import functools
 import re
 import subprocess
 
@@ -14,12 +15,14 @@ from tools import bench_input as bench
 from .alphabet import (LONGEST_STEP, NETWORK, OTHER, OWN, PEER, QUERY_MAXIMUM, QUERY_RETRY, TIMEOUT,
                        by_links, clocks, events, lists)
 
-PLACE = re.compile(r"  place \d+ ([0-9a-f]{12}) (\d+) (\d+) (\d+) (\d+)")
+PLACE = re.compile(r"  place (\d+) ([0-9a-f]{12}) (\d+) (\d+) (\d+) (\d+)")
+FREE = re.compile(r"  free (\d+)")
 LINKS = re.compile(r"  links \d+((?: [0-9a-f]{12}){1,4})")
 QUERY = re.compile(r"  query \d+ (\d+) (\d+) (\d+)")
 KINDS = {7: "authentication", 8: "association", 9: "reassociation"}
 USUAL_HOLD = 1954
 SECONDS = 120
+MOST_KEPT = 1 << 14
 # Both records given up, and time for every hold: the table is empty again. At an access point there is
 # one record, whose links are given up too.
 RESET = [bench.primitive(3, PEER, 3), bench.primitive(3, OTHER, 3), bench.clock(LONGEST_STEP)]
@@ -34,11 +37,11 @@ QueryMove = collections.namedtuple("QueryMove", "rsna rule before after by cause
 
 
 class Trouble(Exception):
-    """The program did something that no reading of its trace allows for."""
+    """The program did something that no reading of what it prints allows for."""
 
 
 def run(command, octets):
-    """What the program says of each event: its line, and the lines of its trace."""
+    """What the program says of each event: its line, and the lines behind that."""
     try:
         done = subprocess.run(command, input=octets, capture_output=True, timeout=SECONDS)
     except (OSError, subprocess.TimeoutExpired) as fault:
@@ -52,29 +55,46 @@ def run(command, octets):
     return said
 
 
-def rows(said):
-    """The rows after an event by address; the lines of links and of a query stand behind that of their
+@functools.lru_cache(MOST_KEPT)
+def changed(places, said):
+    """The places after an event, each with its address and row; the lines of links and of a query stand behind that of their
     place."""
-    found, address = {}, None
+    places, at = dict(places), None
     for line in said:
-        place, links, query = (form.match(line) for form in (PLACE, LINKS, QUERY))
+        place, links, query, free = (form.match(line) for form in (PLACE, LINKS, QUERY, FREE))
         if place:
-            address = bytes.fromhex(place.group(1))
-            found[address] = Row(*map(int, place.groups()[1:]))
-        elif (links or query) and address is None:
+            at = int(place.group(1))
+            places[at] = bytes.fromhex(place.group(2)), Row(*map(int, place.groups()[2:]))
+        elif free and int(free.group(1)) in places:
+            del places[int(free.group(1))]
+        elif free or (links or query) and at is None:
             raise Trouble(f"no place before '{line}'")
         elif links:
-            found[address] = found[address]._replace(links=len(links.group(1).split()))
+            address, row = places[at]
+            places[at] = address, row._replace(links=len(links.group(1).split()))
         elif query:
-            row = found[address]
-            found[address] = Row(*row[:4], *map(int, query.groups()), row.links)
-    return found
+            address, row = places[at]
+            places[at] = address, Row(*row[:4], *map(int, query.groups()), row.links)
+    return tuple(places.items())
 
 
-def rows_of(said):
-    """The two peers' rows after an event."""
-    found = rows(said)
-    return found.get(PEER, NO_ROW), found.get(OTHER, NO_ROW)
+def tables(said):
+    """The places after each event."""
+    places = ()
+    for _, *lines in said:
+        places = changed(places, tuple(lines)) if lines else places
+        yield places
+
+
+def rows(places):
+    """The rows of a table by address."""
+    return dict(held for _, held in places)
+
+
+def rows_of(places):
+    """The two peers' rows of a table."""
+    table = rows(places)
+    return table.get(PEER, NO_ROW), table.get(OTHER, NO_ROW)
 
 
 def situation(both):
@@ -104,8 +124,9 @@ def tried(command, role, rsna, rule, found):
     said = run(command, b"".join(records))
     if len(said) != len(records) - 1:
         raise Trouble(f"{len(records) - 1} events, {len(said)} lines")
+    after_each = list(tables(said))
     for event, end, now in trials:
-        before, after = rows_of(said[end - 1]), rows_of(said[end])
+        before, after = rows_of(after_each[end - 1]), rows_of(after_each[end])
         if situation(before) != now:
             raise Trouble(f"the way to {now} led to {situation(before)}")
         fields = said[end][0].split()

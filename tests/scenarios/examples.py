@@ -1,7 +1,7 @@
 """Plays the examples: python3 -m tests.scenarios.examples --bench CMD --independent CMD.
 
 For each examples/NAME.scenario: what the tool tells is examples/NAME.out, through the command itself and
-from the trace of each of the two programs; both print the same plain lines. The nine steps are the octets
+from the changes of each of the two programs; both print the same plain lines. The nine steps are the octets
 and the lines that the bench program is checked with, and the README shows a part of what is told of them.
 """
 
@@ -36,12 +36,12 @@ def check(file, bench, independent):
     stored = file.with_suffix(".out").read_text()
     lines = lines_of(file.read_text(), file.name)
     plain = plain_lines(lines, bench)
-    both = (bench + ["trace"], bench + ["why"]), (independent + ["-v"], independent + ["why"])
-    tables = [told(lines, *program, True) for program in both]
+    both = [program + ["changes"] for program in (bench, independent)]
+    tables = [told(lines, program, True) for program in both]
     compared = {
         "the command": (stored, command_prints(str(file)).decode()),
-        "bench": (stored, told(lines, *both[0])),
-        "independent program": (stored, told(lines, *both[1])),
+        "bench": (stored, told(lines, both[0])),
+        "independent program": (stored, told(lines, both[1])),
         "plain lines of both": (plain, plain_lines(lines, independent)),
         "--lines": (plain, command_prints("--lines", str(file)).decode()),
         "tables of both": tuple(tables),
@@ -88,7 +88,7 @@ def kept_words(bench):
         keeping, anew = show.Teller(), show.Teller()
         for again in (anew._again, anew._each):
             again.words = again.anew
-        for line, turns in stream.one_by_one(iter(lines_of(text)), bench + ["trace"], bench + ["why"]):
+        for line, turns in stream.one_by_one(iter(lines_of(text)), bench + ["changes"]):
             one, other = "".join(keeping.lines([line], turns)), anew.line(line, turns)
             faults += [] if one == other else [f"{one} is told in place of {other}"]
     return faults
@@ -120,7 +120,7 @@ def readme(bench):
     if shown[0] not in (EXAMPLES / "nine_steps.out").read_text():
         faults.append("what it shows is not told of the nine steps")
     try:
-        if not told(lines_of(own[0], "its scenario"), bench + ["trace"], bench + ["why"]).endswith("expectations, all met\n"):
+        if not told(lines_of(own[0], "its scenario"), bench + ["changes"]).endswith("expectations, all met\n"):
             faults.append("its scenario does not do what it expects")
     except source.ScenarioFault as fault:
         faults.append(str(fault))
@@ -148,8 +148,8 @@ def main():
     files = sorted(EXAMPLES.glob("*.scenario"))
     results = {file.name: check(file, bench, independent) for file in files}
     results["nine steps"] = nine_steps()
-    results["reasons"] = reasons.faults(bench + ["trace"], bench + ["why"])
-    results["expectations"] = expected.faults(bench + ["trace"], bench + ["why"])
+    results["reasons"] = reasons.faults(bench + ["changes"])
+    results["expectations"] = expected.faults(bench + ["changes"])
     results["unmet"] = unmet_is_told()
     results["kept words"] = kept_words(bench)
     results["README.md"] = readme(bench)

@@ -66,12 +66,12 @@ def one(start, before, event, wanted, program):
     """What came in place of one expectation, '' where it is met."""
     teller = show.Teller()
     text = f"{start}{before}{event}\nexpect {wanted}\n"
-    for line, turns in stream.one_by_one(iter(lines_of(text)), *program):
+    for line, turns in stream.one_by_one(iter(lines_of(text)), program):
         teller.line(line, turns)
     return teller.failed[0][1] if teller.failed else ""
 
 
-def faults(*program):
+def faults(program):
     found = []
     for start, before, event, met, unmet in PLAYED:
         for wanted, came in [(wanted, "") for wanted in met] + list(unmet.items()):

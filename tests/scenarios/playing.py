@@ -22,10 +22,10 @@ def inputs(lines):
     return found
 
 
-def told(lines, trace, why, with_table=False):
-    """The transcript, by a program with the argument that makes it trace, and with the one that makes it give reasons."""
+def told(lines, changes, with_table=False):
+    """The transcript, by a program with the argument that makes it print changes."""
     teller = show.Teller(with_table)
-    return "".join(teller.line(*one) for one in stream.one_by_one(iter(lines), trace, why)) + teller.ending()
+    return "".join(teller.line(*one) for one in stream.one_by_one(iter(lines), changes)) + teller.ending()
 
 
 def plain_lines(lines, command):

@@ -109,11 +109,18 @@ NOTHING = [
     (f"{AP} rsna=1", JOINED, "frame sa-query-request from=p", "p is in State 3, and a query counts in State 4"),
     (AP, JOINED, "frame sa-query-request from=p length=27", "Action asks nothing of the table"),
 ]
-# Reasons that no program may print beside the answer that a frame ack gets.
-ODD = {"1 refusal-3 0": "answer and reason differ at event 1: refusal-3",
-       "1 no-class 0": "answer and reason differ at event 1: no-class",
-       "1 why 0": "printed '1 why 0', which is no line of its reasons",
-       "2 none 0": "printed '2 none 0', which is no line of its reasons", "": "gave 0 reasons to 1 events"}
+# The answer that a frame ack gets, with reasons that no program may print beside it, and what is told of each.
+ODD = {"1 0 A 0 0 0 - 0\n  because refusal-3 0\n": "answer and reason differ at event 1: refusal-3",
+       "1 0 A 0 0 0 - 0\n  because no-class 0\n": "answer and reason differ at event 1: no-class",
+       "1 3 - 0 0 0 - 0\n": "answer and reason differ at event 1: none",
+       "1 3 - 0 0 0 - 0\n  because refusal-8 1\n": "answer and reason differ at event 1: refusal-8",
+       "1 0 D 0 0 0 - 0\n  because nothing-to-do 0\n": "answer and reason differ at event 1: nothing-to-do",
+       **{f"1 0 A 0 0 0 - 0\n{line}\n": f"printed '{line}', which is no line of its changes"
+          for line in ("  because why 0", "  because none 0", "  because nothing-to-do", "  because nothing-to-do 0 0",
+                       "  because nothing-to-do -1", " because nothing-to-do 0", "  because  nothing-to-do 0")},
+       "1 0 A 0 0 0 - 0\n  because nothing-to-do 0\n  octets 00\n": "printed '  octets 00', which is no line of its changes",
+       "2 0 A 0 0 0 - 0\n  because nothing-to-do 0\n": "printed '2 0 A 0 0 0 - 0', which is no line of its changes",
+       "": "gave 0 answers to 1 events"}
 
 
 def rows():
@@ -125,24 +132,23 @@ def rows():
         yield settings, before, line, f"admitted, with nothing to do because {why}"
 
 
-def odd(trace):
+def odd():
     """Reasons that do not fit the answer are a fault of the program."""
     found = []
     for printed, said in ODD.items():
-        why = ["sh", "-c", 'cat >/dev/null; [ -z "$0" ] || echo "$0"', printed]
         try:
-            told(lines_of(f"{AP}\nframe ack\n"), trace, why)
+            told(lines_of(f"{AP}\nframe ack\n"), ["sh", "-c", 'cat >/dev/null; printf %s "$0"', printed])
             found.append(f"taken: {printed}")
         except answers.BenchFault as fault:
             found += [] if said in str(fault) else [str(fault)]
     return found
 
 
-def faults(trace, why):
+def faults(changes):
     found = []
     for settings, before, line, said in rows():
-        text = told(lines_of(f"{NAMES}{settings}\n{before}{line}\n"), trace, why)
+        text = told(lines_of(f"{NAMES}{settings}\n{before}{line}\n"), changes)
         got = text.rpartition(f"\n{line}\n")[2]
         if f"  {said}\n" not in got:
             found.append(f"{line}: {got}")
-    return found + odd(trace)
+    return found + odd()

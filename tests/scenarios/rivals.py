@@ -1,4 +1,4 @@
-"""Another maker's logs, told in words: python3 -m tests.scenarios.rivals --program CMD [--trace=-v].
+"""Another maker's logs, told in words: python3 -m tests.scenarios.rivals --program CMD.
 
 For each examples/rivals/NAME.log what is told is NAME.out, by this program. Then logs that are none: other text, octets,
 lines that end in CR LF, none at all, a folder, the scenario itself. Each gets an answer or a line that says what is wrong.
@@ -124,11 +124,10 @@ def command():
 def main():
     parser = argparse.ArgumentParser(description=__doc__.splitlines()[0])
     parser.add_argument("--program", required=True)
-    parser.add_argument("--trace", default="trace")
     given = parser.parse_args()
     program = shlex.split(given.program)
     os.chdir(ROOT)
-    programs = rival.Programs(program + ["check"], program + [given.trace], program + ["why"])
+    programs = rival.Programs(program + ["check"], program + ["changes"])
     faults = stored(programs) + odd_logs(programs) + readme() + command()
     ending.tell(f"{len(OF)} stored logs, {len(BAD)} odd ones", faults)
 

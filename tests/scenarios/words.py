@@ -12,7 +12,7 @@ import tempfile
 
 from tests.comparison import generate
 from tools import bench_input as bench
-from tools.scenario import answers, codes, expect, frame_words, frames, manual, primitives, read
+from tools.scenario import answers, codes, expect, frame_words, frames, manual, primitives, read, stream
 
 from . import tried
 from .laid_out import (OTHER, OWN, PEER, event, frames_as_laid_out, links_as_laid_out,
@@ -106,27 +106,42 @@ def generated_frames_round_trip():
     return faults + ([] if read_back > GENERATED // 2 else [f"only {read_back} frames read back"])
 
 
+# What no program may print behind an answer: no octets, no row, the place of another, and one that is free already.
+NO_LINES = ("  octets", "  octets 0", "  octets 0g", "  current 02", "  nonsense", " ", "  place", "  place 1",
+            "  place 1 02 1 0 0 0", "  place 1 02000000000b 1 0 0", "  place 1 02000000000b 1 0 0 0 0",
+            "  place 1 02000000000b 1 0 0 x", "  place 1 02000000000b 1 0 x 0", "  place 1 02000000000b 1 x 0 0",
+            "  place 1 02000000000b 1 0 0 " + "9" * 5000,
+            "  place x 02000000000b 1 0 0 0", "  place free 0", "  free", "  free 1",
+            "  free 32", "  free x", "  free -1", "  free 0 02000000000a 1 0 0 0", "  free " + "9" * 5000)
+
+
 def odd_answers_are_told():
     """A bench program that prints what it never should, or can't be run, is a fault with a line."""
     line, place = "1 0 - 0 0 0 - 0\n", "  place 0 02000000000a 1 0 0 0\n"
     query, links = "  query 1 1 2 1000\n", "  links 1 020000000101\n"
-    odd = "the bench program printed '{}', which is no line of its trace"
-    wanted = [("stop\n", odd.format("stop")), (place + line, odd.format(place[:-1])),
+    odd = "the bench program printed '{}', which is no line of its changes"
+    wanted = [("stop\n", odd.format("stop")), (place + line, odd.format(place[:-1])), (line[:-1], odd.format(line[:-1])),
               (line + query, odd.format(query[:-1])), (line + place + query, odd.format(query[:-1])),
               (line + links, odd.format(links[:-1])), (line + place + links, odd.format(links[:-1])),
+              (line + place[:-1], odd.format(place[:-1])), (line + place + query[:7], odd.format(query[:7])),
               ("", "the bench program gave 0 answers to 1 events"),
-              (line + line, odd.format(line[:-1]))]
+              (line + line, odd.format(line[:-1])), (line + "2" + line[1:], "the bench program gave 2 answers to 1 events")]
+    wanted += [(f"{line}{before}{one}\n", odd.format(one)) for before in ("", place) for one in NO_LINES]
     played = lines_of(f"ap own={OWN}\nclock 1\n")
     programs = [(["sh", "-c", 'cat >/dev/null; printf %s "$0"', printed], said) for printed, said in wanted]
     programs += [(["/no/such/program"], "/no/such/program can't be run: No such file or directory"),
-                 (["sh", "-c", "echo broken >&2; exit 3"], "the bench program did not run: broken")]
-    faults = []
+                 (["sh", "-c", "echo broken >&2; exit 3"], "the bench program did not run: broken"),
+                 (["true"], "the bench program gave 0 answers to 1 events"),
+                 (["sh", "-c", 'printf %s "$0"; exec sleep 9', line + place], "sh had not answered after 0.2 s")]
+    faults, seconds = [], stream.SECONDS
     for program, said in programs:
+        stream.SECONDS = 0.2 if "sleep" in " ".join(program) else seconds
         try:
-            told(played, program, ["sh", "-c", "cat >/dev/null; echo 1 none 0"])
+            told(played, program)
             faults.append(f"taken: {program}")
         except answers.BenchFault as fault:
             faults += [] if str(fault) == said else [str(fault)]
+    stream.SECONDS = seconds
     return faults
 
 

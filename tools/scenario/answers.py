@@ -1,45 +1,77 @@
-"""Reads blocks of what the bench program printed, with their reasons, into answers."""
+"""Reads what the bench program says of an event, but for the table, into an answer with its reason."""
 
 import collections
+import functools
 import re
 
-from .blocks import Trace
-from .rows import BenchFault, odd, records  # the fault is known by this module too
+from .rows import MOST_KEPT, WAIT, BenchFault, odd, records  # the fault is known by this module too
 
 # The table is by address, in no order; changed are the addresses whose records are not as they were, by place. The reason is the
 # rule that decided, with its value.
 Answer = collections.namedtuple(
-    "Answer", "number refusal verdict notice code written ds state octets current table changed reason value",
-    defaults=("none", 0))
+    "Answer", "number refusal verdict notice code written ds state octets current table changed reason value")
 
 LINE = re.compile(r"\d+ [AD-] \d+ \d+ \d+ [JL-] \d+")
-FIRST = re.compile(r"(?:  octets ([0-9a-f]+)\n)?(?:  current ([0-9a-f]{12})\n)?")
 WHY = re.compile(r"(?:refusal-[1-9]|no-class|class-filter|group-rule|nothing-to-do|none) \d+")
+N = r"(\d{1,20})"
+SAID = re.compile(rf"{N} ([AD-]) {N} {N} {N} ([JL-]) {N}(?:\n  octets ((?:[0-9a-f]{{2}})+))?(?:\n  current ([0-9a-f]{{12}}))?"
+                  rf"(?:\n  because (refusal-[1-9]|no-class|class-filter|group-rule|nothing-to-do) {N})?")
+# The one reason whose value runs down.
+HELD = "refusal-8"
+DISCARDS = {"no-class", "class-filter", "group-rule"}
 # What of an event its words depend on, by the reason: a field of it, the record where the reason is not named here.
 TOLD_BY = {"none": "gist", "no-class": "gist", "class-filter": "gist", "nothing-to-do": "idle"}
 
 
-class Outcome:
-    """What an event came to, but for the table: the answer's fields between its number and the table, and its reason. Each is made once
-    for its text, so that it can stand for that in a key."""
+def _unread(number, said):
+    """The fault of the first line that is none of an answer, in its place."""
+    found = SAID.match(said)
+    at = said.count("\n", 0, found.end() + 1) if found else 0
+    line = said.split("\n")[at]
+    return odd(line if at else f"{number} {line}")
 
-    def __init__(self, number, said, reason):
-        line, _, rest = said.partition("\n")
-        first = FIRST.fullmatch(rest)
-        if not LINE.fullmatch(line) or not first:
-            raise odd(rest.partition("\n")[0] if LINE.fullmatch(line) else f"{number} {line}")
-        if not WHY.fullmatch(reason):
-            raise odd(f"{number} {reason}", "reasons")
-        refusal, verdict, notice, code, written, ds, state = line.split(" ")
+
+@functools.lru_cache(None)
+def fits(refusal, verdict, reason):
+    """Whether a reason is one that an answer with this refusal and verdict can have."""
+    if reason.startswith("refusal-") or refusal:
+        return reason == f"refusal-{refusal}"
+    return (verdict == "D") == (reason in DISCARDS) and (reason != "nothing-to-do" or verdict == "A")
+
+
+class Outcome:
+    """What an event came to, but for the table: the answer's fields between its number and the table, and its reason. Each is
+    made once for its text, so that it can stand for that in a key. Where its value is a time, words are told of the one like it
+    that has a sign for this, and the times are that sign with what it stands for."""
+
+    __slots__ = "fields", "refusal", "reason", "value", "told_by", "like", "times"
+
+    def __init__(self, number, said):
+        found = SAID.fullmatch(said)
+        if not found:
+            raise _unread(number, said)
+        refusal, verdict, notice, code, written, ds, state, octets, current, reason, value = found.groups()
         self.fields = (int(refusal), verdict, int(notice), int(code), int(written), ds, int(state),
-                       bytes.fromhex(first[1] or ""), bytes.fromhex(first[2]) if first[2] else None)
-        self.refusal, self.verdict = self.fields[:2]
-        self.reason, value = reason.split(" ")
-        self.value = int(value)
+                       bytes.fromhex(octets or ""), bytes.fromhex(current) if current else None)
+        self.refusal, self.reason, self.value = int(refusal), reason or "none", int(value or 0)
+        if not fits(self.refusal, verdict, self.reason):
+            raise BenchFault(f"the bench program's answer and reason differ at event {number}: {self.reason}")
         self.told_by = TOLD_BY.get(self.reason, "record")
+        # Not itself, which would keep it for ever.
+        self.like, self.times = None, ()
+        if self.reason == HELD:
+            self.like, self.times = _held(self.fields), ((WAIT, f"{self.value:,}"),)
 
     def answer(self, number, table, changed):
         return Answer(number, *self.fields, table, changed, self.reason, self.value)
+
+
+@functools.lru_cache(MOST_KEPT)
+def _held(fields):
+    """The outcome with these fields of an event that has to wait, however long."""
+    made = Outcome.__new__(Outcome)
+    made.fields, made.reason, made.value = fields, HELD, WAIT
+    return made
 
 
 def changed_of(pairs):
@@ -52,15 +84,6 @@ def read(turn):
     event, number, outcome, before, after, changed = turn
     table = records(before)
     return event, outcome.answer(number, records(after) if changed else table, changed_of(changed)), table
-
-
-def read_trace(text):
-    """The answers of a whole trace; of the reasons it has nothing."""
-    made, table = [], {}
-    for number, said, _, rows, changed in Trace().take(text, True):
-        table = records(rows) if changed else table
-        made.append(Outcome(number, said, "none 0").answer(number, table, changed_of(changed)))
-    return made
 
 
 def device(address, table):

@@ -4,30 +4,20 @@ The rule that decided is the program's. What is named beside it, the very settin
 here in the event and the table before it, in the order of the rules; where nothing fits, the rule's own words stand.
 """
 
-import functools
-
 from tools import bench_input as bench
 
 from . import because_frame, codes, frames
 from .answers import device
 from .because_frame import invalid, length_words, shown, single
+from .rows import WAIT
 
 REASONS = tuple(f"refusal-{number}" for number in range(1, 10)) + (
     "no-class", "class-filter", "group-rule", "nothing-to-do", "none")
-DISCARDS = {"no-class", "class-filter", "group-rule"}
 # The codes that a primitive takes: 0 alone, any but 0, 0 or 1; all where it is not listed.
 CODES = {**{which: ("0", lambda code: code == 0) for which in (1, 4, 5, 9, 11)},
          **{which: ("any but 0", lambda code: code != 0) for which in (3, 6)},
          10: ("0 or 1", lambda code: code < 2)}
 MOST_LINKS, PLACES = 4, 32
-
-
-@functools.lru_cache(None)
-def fits(refusal, verdict, reason):
-    """Whether a reason is one that an answer with this refusal and verdict can have."""
-    if reason.startswith("refusal-") or refusal:
-        return reason == f"refusal-{refusal}"
-    return (verdict == "D") == (reason in DISCARDS) and (reason != "nothing-to-do" or verdict == "A")
 
 
 def _settings(settings):
@@ -122,7 +112,7 @@ def _refused(event, answer, before, settings, say):
     if number == 7:
         return _no_match(event, value, before, say)
     if number == 8:
-        return f"the hold on {say(event.peer)} is {value:,} TU"
+        return f"the hold on {say(event.peer)} is {value if value == WAIT else f'{value:,}'} TU"
     if number == 9:
         return _under_way(event, before, say)
     return codes.refusal(number, event.kind, event.primitive, settings.role)

@@ -1,96 +1,106 @@
-"""Cuts what the bench program prints into blocks, one an event, as it comes: a table is compared as text, and read where it differs."""
+"""Cuts what `bench changes` prints into blocks, one an event, as it comes, and holds the table that its places make."""
 
 import re
 
-from .rows import AT_PLACE, after, cut, differing, odd
+from .answers import Outcome, changed_of
+from .rows import NO_ROW, after, odd, paired, records, row
 
 NEXT = re.compile(r"\n(?=[^ ])")
-# The third sign of a line that stands before the table, 'octets' or 'current'.
-BEFORE_TABLE = {"o", "c"}
-MOST_KNOWN = 512
+PLACE, FREE, LINKS = "\n  place ", "\n  free ", "\n  links "
+SHOWN = re.compile(r"\n  (place|free) ")
+MOST_KEPT = 4096
 
 
-class Reasons:
-    """Takes the lines of `bench why`."""
-
-    def __init__(self):
-        self.number, self._text = 0, ""
-
-    def take(self, text):
-        """The reasons that are whole by now, each as it stands behind its number."""
-        *lines, self._text = (self._text + text).split("\n")
-        made, at = [], self.number
-        for line in lines:
-            at += 1
-            number, _, reason = line.partition(" ")
-            if number != str(at):
-                raise odd(line, "reasons")
-            made.append(reason)
-        self.number = at
-        return made
-
-
-class Trace:
-    """Takes the lines of `bench trace`; holds the table of the last event, so that only what changed is read."""
+class Changes:
+    """Takes the lines of `bench changes`; holds the table of the last event."""
 
     def __init__(self):
         self.number, self._text = 0, ""
-        # What stood before the last table, at first what never does; this table as it stands in the text, and its rows by address.
-        self._said, self._places, self._rows = "?", "", {}
-        # What was made of a table behind another: in a long scenario most come again.
-        self._known = {}
+        # The rows by address and by place; what events came to, by what was said of them.
+        self._rows, self._places, self._outcomes = {}, {}, {}
+        # Whether a device had links so far.
+        self._linked = False
 
     def take(self, text, last=False):
-        """The blocks that are whole by now, the last one when the text has ended. A block is its number, what stands between that and
-        the table, the rows before and after, and the pairs of these that differ."""
-        text = self._text + text
-        text += "\n" if last and text[-1:] not in ("", "\n") else ""
-        at, size, made, rows, old, said = 0, len(text), [], self._rows, self._places, self._said
-        find, starts, number = text.find, text.startswith, self.number + 1
-        while at < size:
-            # Most often it is the last block again, but for its number.
-            block, before, changed = f"{number} {said}{old}", rows, ()
-            end = at + len(block)
-            if not starts(block, at) or end >= size or text[end] == " ":
-                places = find("\n", at) + 1
-                while text[places + 2:places + 3] in BEFORE_TABLE and places:
-                    places = find("\n", places) + 1
-                end = places + len(old)
-                if not places or end >= size and not last:
-                    break
-                begins = f"{number} "
-                if not starts(begins, at):
-                    raise odd(text[at:find("\n", at)])
-                said = text[at + len(begins):places]
-                if not starts(old, places) or text[end:end + 1] == " ":
-                    end, changed = self._other(text, places, number + 1, last)
-                    if not end:
-                        break
-                    rows, old = self._rows, self._places
-            made.append((number, said, before, rows, changed))
-            number += 1
-            at = end
-        self.number, self._text, self._said = number - 1, text[at:], said
+        """The blocks that are whole by now, the last one when the text has ended. A block is its number, what the event came to,
+        the rows before and after it, and the pairs of these that differ."""
+        *blocks, self._text = NEXT.split(self._text + text)
+        if last:
+            blocks += self._rest()
+        made, rows, known = [], self._rows, self._outcomes
+        for number, block in enumerate(blocks, self.number + 1):
+            head, _, said = block.partition(" ")
+            if head != str(number):
+                raise odd(block.partition("\n")[0])
+            outcome = known.get(said)
+            if outcome:
+                made.append((number, outcome, rows, rows, ()))
+                continue
+            before, changed = rows, ()
+            if PLACE in said or FREE in said:
+                said, changed = self._changed(said)
+                rows = self._rows
+            made.append((number, known.get(said) or self._outcome(number, said), before, rows, changed))
+        self.number += len(blocks)
         return made
 
-    def _other(self, text, places, number, last):
-        """Takes a table that is not the last one: where the block of this number begins, 0 where that has not come yet, and the
-        rows that are new, other or gone."""
-        end = text.find(f"\n{number} ", places - 1) + 1
-        if not end:
-            other = NEXT.search(text, places - 1)
-            end = other.end() if other else len(text) if last else 0
-        if not end:
-            return 0, ()
-        if end > places and not text.startswith(AT_PLACE, places):
-            raise odd(text[places:end].partition("\n")[0])
-        both = self._places, text[places:end]
-        self._places, self._rows, changed = self._known.get(both) or self._first(both)
-        return end, changed
+    def _rest(self):
+        """The last block, if any; a line without an end is none."""
+        text, self._text = self._text, ""
+        if text and text[-1] != "\n":
+            raise odd(text.rpartition("\n")[2])
+        return [text[:-1]] if text else []
 
-    def _first(self, both):
-        """A table behind another, for the first time: its text, its rows by address, and the pairs that differ."""
-        if len(self._known) >= MOST_KNOWN:
-            self._known.clear()
-        changed = differing(*map(cut, both))
-        return self._known.setdefault(both, (both[1], after(self._rows, changed), changed))
+    def _changed(self, said):
+        """Takes the places that a block shows: what is said before them, and the pairs of rows."""
+        self._linked = self._linked or LINKS in said
+        if FREE in said:
+            said, *shown = SHOWN.split(said)
+            return said, self._moved([self._shown(*one) for one in zip(shown[::2], shown[1::2])])
+        said, *texts = said.split(PLACE)
+        # Most often the devices stay where they are, and have no links.
+        places, rows, changed, stay = self._places, self._rows.copy(), [], not self._linked
+        for new in map(row, texts):
+            place, address, _, _, _, _ = new
+            old = places.get(place, NO_ROW)
+            places[place] = rows[address] = new
+            changed.append((old, new))
+            if old[1] != address and old is not NO_ROW:
+                stay = False
+        if not stay:
+            return said, self._moved(changed)
+        self._rows = rows
+        return said, changed
+
+    def _moved(self, shown):
+        """Takes pairs of rows by place; the pairs by device."""
+        changed = paired(shown)
+        self._rows = after(self._rows, changed)
+        return changed
+
+    def _shown(self, word, text):
+        """The row that a place had, and the one that it has now."""
+        places = self._places
+        if word == "place":
+            new = row(text)
+            old, places[new.place] = places.get(new.place, NO_ROW), new
+            return old, new
+        old = places.pop(int(text), None) if text.isdecimal() and len(text) < 3 else None
+        if old is None:
+            raise odd(f"  free {text}".partition("\n")[0])
+        return old, NO_ROW
+
+    def _outcome(self, number, said):
+        """What an event came to, for the first time."""
+        if len(self._outcomes) >= MOST_KEPT:
+            self._outcomes.clear()
+        return self._outcomes.setdefault(said, Outcome(number, said))
+
+
+def answers(text):
+    """The answers of all that `bench changes` printed."""
+    made, table = [], {}
+    for number, outcome, _, rows, changed in Changes().take(text, True):
+        table = records(rows) if changed else table
+        made.append(outcome.answer(number, table, changed_of(changed)))
+    return made

@@ -65,14 +65,14 @@ def octets(lines, name):
             put(piece)
 
 
-def programs(command):
-    return command + ["trace"], command + ["why"]
+def changes(command):
+    return command + ["changes"]
 
 
 def tell(lines, name, command, with_table):
     """The transcript; the number of expectations that were not met."""
     teller = Teller(with_table)
-    for some, turns in stream.played(lines, *programs(command)):
+    for some, turns in stream.played(lines, changes(command)):
         if some:
             put("".join(teller.lines(some, turns)).encode())
     put(teller.ending().encode())
@@ -88,7 +88,7 @@ def unmet(name, line, came):
 def check(lines, name, command):
     """Prints only what was not as expected; the number of such lines."""
     teller = Teller()
-    for line, turns in stream.one_by_one(lines, *programs(command)):
+    for line, turns in stream.one_by_one(lines, changes(command)):
         teller.begin(line)
         came = teller.judge(line, turns)
         if came:
@@ -123,7 +123,7 @@ def produce(options, file, command):
         return turn(file, options["--settings"])
     if "--rival" in options:
         stream.ready(command)
-        told, right = rival.compare(file, options["--rival"], rival.Programs(command + ["check"], *programs(command)))
+        told, right = rival.compare(file, options["--rival"], rival.Programs(command + ["check"], changes(command)))
         put(("\n".join(told) + "\n").encode())
         return 0 if right else 1
     text, name = source.opened(file)
@@ -141,7 +141,7 @@ def produce(options, file, command):
             return check(lines, name, command)
         if "--chart" in options:
             from tools.pictures import played  # the pictures are needed here alone
-            return played.write(stream.one_by_one(lines, *programs(command)), name, options["--chart"])
+            return played.write(stream.one_by_one(lines, changes(command)), name, options["--chart"])
         return tell(lines, name, command, "--table" in options)
 
 

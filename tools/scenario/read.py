@@ -32,8 +32,8 @@ MOST_KEPT = 4096
 # The first octets of data frames: of what follows in these nothing is told.
 DATA = {bench.frame_control(bench.DATA, subtype)[:1] for subtype in range(16)}
 SAMPLE = "02:00:00:00:00:0a"
-# How no record begins.
-NO_RECORD = b"\0"
+# How no record begins; with how many octets one is told of a frame that has nothing to do: of its elements nothing is.
+NO_RECORD, TOLD = b"\0", bench.HEAD + 30
 
 
 def _field(word, known, what):
@@ -204,7 +204,7 @@ class Reader:
         peer, record = laid[10:16] if frames.names_peer(laid) else None, bench.frame(laid)
         data = laid[:1] in DATA
         gist = record if raw else b"".join((NO_RECORD, peer or b"", laid[:2], b"" if data else laid[24:26]))
-        return Event(record, "frame", peer, 0, laid, raw, gist, gist if data else record)
+        return Event(record, "frame", peer, 0, laid, raw, gist, gist if data or raw else record[:TOLD])
 
     def _prim(self, words):
         if len(words) < 2:

@@ -20,8 +20,8 @@ from .show import Teller
 from .source import UsageFault
 from .values import visible
 
-# The commands that check a log, trace an input and give its reasons.
-Programs = collections.namedtuple("Programs", "check trace why")
+# The commands that check a log, and that tell of an input what each event changed.
+Programs = collections.namedtuple("Programs", "check changes")
 # The fields of a line, as the check names them, and for a reader.
 FIELDS = {"number": "the event's number", "refusal": "the refusal", "verdict": "the verdict", "notice": "what our side is told",
           "code": "the code of what our side is told", "written": "how many octets are written",
@@ -103,7 +103,7 @@ def rule(one, settings, say):
 def event_words(lines, programs, number):
     """The words of our own answer to an event: the scenario's line, the plain line, what it did, and the rule."""
     teller = Teller()
-    for line, turns in stream.one_by_one(lines, programs.trace, programs.why):
+    for line, turns in stream.one_by_one(lines, programs.changes):
         teller.begin(line)
         for turn in turns:
             if turn[1] == number:

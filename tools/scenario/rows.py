@@ -1,9 +1,7 @@
-"""The rows of a table as the bench program's trace has them, and the records that they are."""
+"""The rows of a table as the bench program shows them, and the records that they are."""
 
 import collections
 import functools
-import itertools
-import operator
 import re
 
 # The query is 0 none, 1 running, 2 running with its request due, 3 timed out; the links are addresses.
@@ -12,13 +10,17 @@ Record = collections.namedtuple("Record", "place address state exchange left hol
 # A row by its text behind 'place'. Its mark is this text with a sign in place of each time that runs down, and the times are these signs
 # with what they stand for: words that were told of a mark serve for all of its times.
 Row = collections.namedtuple("Row", "place address text mark times links")
+_row = tuple.__new__
 NO_ROW = Row(0, None, "", "", (), ())
 LEFT, HOLD, QUERY_LEFT = SIGNS = "\x01", "\x02", "\x03"
+# The sign for the time in a refusal.
+WAIT = "\x04"
 
-AT_PLACE, NEXT_PLACE = "  place ", "\n  place "
-PLACE = re.compile(r"(\d+) ([0-9a-f]{12}) \d+ \d+")
+PLACE = re.compile(r"(\d{1,2}) ([0-9a-f]{12}) \d{1,2} \d{1,2}")
 LINKS = re.compile(r"  links (\d+)((?: [0-9a-f]{12}){1,4})")
-QUERY = re.compile(r"(  query (\d+) \d+ \d+) (\d+)")
+QUERY = re.compile(r"(  query (\d+) \d{1,5} \d{1,2}) (\d{1,20})")
+# So many of them a time has at most.
+DIGITS = 20
 MOST_KEPT = 4096
 
 
@@ -26,46 +28,52 @@ class BenchFault(Exception):
     """The bench program could not be run, or printed what it never should."""
 
 
-def odd(line, what="trace"):
-    return BenchFault(f"the bench program printed '{line}', which is no line of its {what}")
-
-
-def cut(places):
-    """The texts of a table's rows."""
-    return places[len(AT_PLACE):-1].split(NEXT_PLACE) if places else []
+def odd(line):
+    return BenchFault(f"the bench program printed '{line}', which is no line of its changes")
 
 
 @functools.lru_cache(MOST_KEPT)
-def _placed(text):
-    """Place and address of a row's beginning; nothing where it is not one."""
-    found = PLACE.fullmatch(text)
-    return found and (int(found[1]), bytes.fromhex(found[2]))
+def _begun(start):
+    """A row of one line, but for its hold: the row without one, place and address, and with one its mark and the times before.
+    Nothing where it is none."""
+    placed, _, left = start.rpartition(" ")
+    found = PLACE.fullmatch(placed)
+    if not found or not left.isdecimal() or len(left) > DIGITS:
+        return None
+    times, mark = ((), f"{placed} 0") if left == "0" else (((LEFT, left),), f"{placed} {LEFT}")
+    place, address = int(found[1]), bytes.fromhex(found[2])
+    return Row(place, address, f"{start} 0", f"{mark} 0", times, ()), place, address, f"{mark} {HOLD}", times
 
 
-@functools.lru_cache(MOST_KEPT)
 def row(text):
     """A row of its lines, behind 'place': its own, then those of its links and of its query, if any."""
-    first, _, rest = text.partition("\n")
-    start, left, hold = first.rsplit(" ", 2) if first.count(" ") > 2 else ("", "", "")
-    placed = _placed(start)
-    if not (placed and left.isdecimal() and hold.isdecimal()):
-        raise odd(AT_PLACE + first)
-    times = tuple([(sign, time) for sign, time in ((LEFT, left), (HOLD, hold)) if time != "0"])
-    made = Row(*placed, text, f"{start} {LEFT if left != '0' else 0} {HOLD if hold != '0' else 0}", times, ())
-    return _longer(made, rest.split("\n")) if rest else made
+    if "\n" in text:
+        return _longer(text)
+    start, _, hold = text.rpartition(" ")
+    begun = _begun(start)
+    if not begun or not hold.isdecimal() or len(hold) > DIGITS:
+        raise odd(f"  place {text}")
+    without, place, address, mark, times = begun
+    if hold == "0":
+        return without
+    held = (HOLD, hold)
+    return _row(Row, (place, address, text, mark, (times[0], held) if times else (held,), ()))
 
 
-def _longer(row_, lines):
-    """A row with its further lines."""
+@functools.lru_cache(MOST_KEPT)
+def _longer(text):
+    """A row with further lines."""
+    first, *lines = text.split("\n")
+    made = row(first)._replace(text=text)
     for line in lines:
         named, query = LINKS.fullmatch(line), QUERY.fullmatch(line)
-        if str(row_.place) != (named[1] if named else query and query[2]):
+        if str(made.place) != (named[1] if named else query and query[2]):
             raise odd(line)
         if named:
-            row_ = row_._replace(mark=f"{row_.mark}\n{line}", links=tuple(map(bytes.fromhex, named[2].split())))
+            made = made._replace(mark=f"{made.mark}\n{line}", links=tuple(map(bytes.fromhex, named[2].split())))
         else:
-            row_ = row_._replace(mark=f"{row_.mark}\n{query[1]} {QUERY_LEFT}", times=(*row_.times, (QUERY_LEFT, query[3])))
-    return row_
+            made = made._replace(mark=f"{made.mark}\n{query[1]} {QUERY_LEFT}", times=(*made.times, (QUERY_LEFT, query[3])))
+    return made
 
 
 def filled(text, times):
@@ -97,6 +105,17 @@ def records(rows):
     return {row_.address: record(row_.text) for row_ in rows.values()}
 
 
+def paired(shown):
+    """Of the rows that places had and have now, each that is new beside the one that its device had, by place; NO_ROW where
+    there is none."""
+    if len(shown) == 1 and (shown[0][0].address == shown[0][1].address or NO_ROW in shown[0]):
+        return shown
+    gone = {old.address: old for old, _ in shown if old.text}
+    made = [(gone.pop(new.address, NO_ROW), new) for _, new in shown if new.text]
+    made += [(old, NO_ROW) for old in gone.values()]
+    return sorted(made, key=lambda pair: (pair[1] if pair[1].text else pair[0]).place)
+
+
 def after(rows, changed):
     """Rows by the addresses of their devices and of the links, with some changed."""
     rows = rows.copy()
@@ -111,16 +130,3 @@ def after(rows, changed):
             for address in new.links:
                 rows[address] = new
     return rows
-
-
-def differing(old, new):
-    """Of the texts of two tables' rows those that are not the same, in pairs, each beside the row that it was, by place; NO_ROW where
-    there is none."""
-    if len(old) == len(new):
-        made = [(row(was), row(is_)) for was, is_ in itertools.compress(zip(old, new), map(operator.ne, old, new))]
-        if all([was.address == is_.address for was, is_ in made]):
-            return made
-    gone = {row_.address: row_ for row_ in map(row, set(old).difference(new))}
-    made = [(gone.pop(row_.address, NO_ROW), row_) for row_ in map(row, set(new).difference(old))]
-    made += [(row_, NO_ROW) for row_ in gone.values()]
-    return sorted(made, key=lambda pair: (pair[1] if pair[1].text else pair[0]).place)

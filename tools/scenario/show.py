@@ -10,6 +10,7 @@ from .answers import read
 from .names import Names
 from .values import visible
 
+MOST_KEPT = 256
 PROTECTION = {0: "management frames not protected", 1: "management frames protected"}
 
 
@@ -43,6 +44,8 @@ class Teller:
         self.names, self.settings, self.with_table = Names(), None, with_table
         self.expected, self.failed = 0, []
         self._turns, self._again, self._each = [], Again(self.names.say), Again(self.names.say, "each")
+        # What events of one line that changed no record came to.
+        self._kept = {}
 
     def begin(self, line):
         """Takes what a line says of names and settings; the words for settings, else none."""
@@ -50,6 +53,7 @@ class Teller:
             return []
         self._again.begin(line.settings)
         self._each.begin(line.settings)
+        self._kept.clear()
         if line.named:
             self.names.define(*line.named)
             return []
@@ -79,7 +83,11 @@ class Teller:
                 told.append(f"{text}\n{INDENT}{turn[1]}  {words_(turn)}\n")
                 continue
             self._turns, turn = [turn] if turn else self._turns, None
-            told.append(self.line(line, list(itertools.islice(turns, len(events)))))
+            if events and plain and not remark and text.isprintable():
+                self._turns = list(itertools.islice(turns, len(events)))
+                told.append("\n".join([text, *self._events(self._turns), ""]))
+            else:
+                told.append(self.line(line, list(itertools.islice(turns, len(events)))))
         self._turns = [turn] if turn else self._turns
         return told
 
@@ -112,16 +120,33 @@ class Teller:
         if turns[0][0].kind == "clock":
             text = "\n".join(words.steps([read(turn) for turn in turns], self.names.say))
             return [_numbered(f"{turns[0][1]}..{turns[-1][1]}", text)]
-        texts, told = tuple([self._each.words(turn) for turn in turns]), []
+        return [_numbered(f"{turns[at][1]}..{turns[at + count - 1][1]}", text) if text else self._one(turns[at])
+                for at, count, text in self._runs(turns)]
+
+    def _runs(self, turns):
+        """The events of a line that did alike, as the place of the first, how many they are, and what is told of them; of one
+        alone nothing. Where they changed no record it is kept, by the very events and rows, which are kept with it."""
+        events, _, outcomes, rows, after, _ = zip(*turns)
+        if rows[0] is not after[-1]:
+            return self._alike(turns)
+        key = id(rows[0]), tuple(map(id, events)), outcomes
+        kept = self._kept.get(key)
+        if kept is None:
+            if len(self._kept) >= MOST_KEPT:
+                self._kept.clear()
+            kept = self._kept[key] = self._alike(turns), rows[0], events
+        return kept[0]
+
+    def _alike(self, turns):
+        """The same of events that are looked at one by one."""
+        texts, found = tuple([self._each.words(turn) for turn in turns]), []
         for at, count in merge.runs(texts):
-            first, last = turns[at], turns[at + count - 1]
-            if count == 1:
-                told.append(self._one(first))
-            else:
-                peers = f"{self.names.say(first[0].peer)} to {self.names.say(last[0].peer)}"
-                text = merge.joined(texts[at], texts[at + count - 1])
-                told.append(_numbered(f"{first[1]}..{last[1]}", f"{count} events, one for each of {peers}:\n{text}"))
-        return told
+            last, text = at + count - 1, ""
+            if count > 1:
+                peers = f"{self.names.say(turns[at][0].peer)} to {self.names.say(turns[last][0].peer)}"
+                text = f"{count} events, one for each of {peers}:\n{merge.joined(texts[at], texts[last])}"
+            found.append((at, count, text))
+        return found
 
     def _one(self, turn):
         """An event with its number, and with the table after it where that is wanted."""

@@ -2,6 +2,7 @@
 
 import bisect
 import itertools
+import operator
 import os
 import pathlib
 import platform
@@ -10,16 +11,15 @@ import shutil
 import subprocess
 import tempfile
 
-from .answers import BenchFault, Outcome
-from .because import fits
-from .blocks import Reasons, Trace
+from .blocks import Changes
+from .rows import BenchFault
 
 BENCH = [str(pathlib.Path(__file__).resolve().parents[2] / "bench")]
 PIECE = 1 << 16
 SECONDS = 120
 # So many lines are handed on at once; then it is looked what has come.
 OFTEN = 512
-MOST_KEPT = 4096
+EVENTS, RECORD = operator.attrgetter("events"), operator.attrgetter("record")
 RT = "the Rattle kit's 'rt' is not on the PATH: install the kit, or add its bin folder to PATH"
 
 
@@ -94,84 +94,69 @@ class Child:
 class Run:
     """One bench input with its answers: settings, then lines one after the other."""
 
-    def __init__(self, trace, why, settings):
-        self._children = Child(trace), Child(why)
-        self._read = Trace(), Reasons()
-        for child in self._children:
-            child.pending += settings.record
-        # The lines that are not yet told, how many events each has, and the events that are not yet answered.
-        self._lines, self._counts, self._events, self._fed = [], [], [], 0
-        # What was read of each child, and the turns that were made of it.
-        self._blocks, self._reasons = self._got = [], []
-        self._turns, self._outcomes = [], {}
+    def __init__(self, command, settings):
+        self._child, self._changes = Child(command), Changes()
+        self._child.pending += settings.record
+        # The lines that are not yet told, with which event each ends, and the events that are not yet answered.
+        self._lines, self._ends, self._events = [], [], []
+        # How many events were given to the child, and how many were handed on.
+        self._fed, self._told = 0, 0
+        # What was read of the child, and the turns that were made of it.
+        self._blocks, self._turns = [], []
 
     def add(self, lines):
         """Takes some lines; waits where the program is behind."""
-        events = [event for line in lines for event in line.events]
-        octets = b"".join([event.record for event in events])
-        self._fed += len(events)
+        of_each = list(map(EVENTS, lines))
+        events = list(itertools.chain.from_iterable(of_each))
         self._lines += lines
-        self._counts += [len(line.events) for line in lines]
+        self._ends += itertools.islice(itertools.accumulate(map(len, of_each), initial=self._fed), 1, None)
         self._events += events
-        for at, child in enumerate(self._children):
-            child.pending += octets
-            while len(child.pending) >= PIECE:
-                self._turn(at, True)
+        self._fed += len(events)
+        self._child.pending += b"".join(map(RECORD, events))
+        while len(self._child.pending) >= PIECE:
+            self._turn(True)
 
     def look(self):
         """The lines that are answered by now, and their turns."""
-        for at in range(len(self._children)):
-            self._turn(at, False)
+        self._turn(False)
         return self._answered()
 
     def finish(self):
         """The lines that are left, after the last one."""
-        for at, child in enumerate(self._children):
-            while not child.over:
-                self._turn(at, True, True)
-                yield self._answered()
-        self._blocks += self._read[0].take("", True)
+        while not self._child.over:
+            self._turn(True, True)
+            yield self._answered()
+        self._blocks += self._changes.take("", True)
         yield self._answered()
-        for read, what in zip(self._read, ("answers", "reasons")):
-            if read.number != self._fed:
-                raise BenchFault(f"the bench program gave {read.number} {what} to {self._fed} events")
+        if self._changes.number != self._fed:
+            raise BenchFault(f"the bench program gave {self._changes.number} answers to {self._fed} events")
 
-    def _turn(self, at, wait, last=False):
-        text = self._children[at].turn(wait, last)
+    def _turn(self, wait, last=False):
+        text = self._child.turn(wait, last)
         if text:
-            self._got[at].extend(self._read[at].take(text))
+            self._blocks += self._changes.take(text)
 
     def _answered(self):
-        """What both children have answered by now made into turns, and the lines that are whole with these."""
-        turns, known, first = self._turns, self._outcomes, self._outcome
-        turns += [(event, number, known.get((said, reason)) or first(number, said, reason), before, after, changed)
-                  for event, (number, said, before, after, changed), reason in zip(self._events, self._blocks, self._reasons)]
-        count = min(len(self._events), len(self._blocks), len(self._reasons))
-        del self._events[:count], self._blocks[:count], self._reasons[:count]
-        ends = list(itertools.accumulate(self._counts))
-        whole = bisect.bisect_right(ends, len(turns))
-        end = ends[whole - 1] if whole else 0
+        """What is answered by now made into turns, and the lines that are whole with these."""
+        turns = self._turns
+        turns += [(event, number, outcome, before, after, changed)
+                  for event, (number, outcome, before, after, changed) in zip(self._events, self._blocks)]
+        count = min(len(self._events), len(self._blocks))
+        del self._events[:count], self._blocks[:count]
+        whole = bisect.bisect_right(self._ends, self._told + len(turns))
+        end = self._ends[whole - 1] - self._told if whole else 0
         done = self._lines[:whole], turns[:end]
-        del self._lines[:whole], self._counts[:whole], turns[:end]
+        del self._lines[:whole], self._ends[:whole], turns[:end]
+        self._told += end
         return done
 
-    def _outcome(self, number, said, reason):
-        """An answer and its reason that come for the first time."""
-        if len(self._outcomes) >= MOST_KEPT:
-            self._outcomes.clear()
-        made = self._outcomes[said, reason] = Outcome(number, said, reason)
-        if not fits(made.refusal, made.verdict, made.reason):
-            raise BenchFault(f"the bench program's answer and reason differ at event {number}: {made.reason}")
-        return made
-
     def end(self):
-        for child in self._children:
-            child.end()
+        self._child.end()
 
 
-def played(lines, trace, why):
-    """Some lines, and the turns that their events were, over and over. A turn is the event, its number and outcome, the rows before and
-    after it, and the pairs of these that differ. The program is run twice, for its trace and for its reasons."""
+def played(lines, command):
+    """Some lines, and the turns that their events were, over and over. A turn is the event, its number and outcome, the rows
+    before and after it, and the pairs of these that differ. The command is the program with its word for changes."""
     run, some = None, []
     try:
         for line in lines:
@@ -180,7 +165,7 @@ def played(lines, trace, why):
                     run.add(some)
                     yield from run.finish()
                     run.end()
-                run, some = Run(trace, why, line.settings), []
+                run, some = Run(command, line.settings), []
             if run is None:
                 yield [line], []
                 continue
@@ -197,9 +182,9 @@ def played(lines, trace, why):
             run.end()
 
 
-def one_by_one(lines, trace, why):
+def one_by_one(lines, command):
     """The same line by line, each with its own turns."""
-    for some, turns in played(lines, trace, why):
+    for some, turns in played(lines, command):
         turns = iter(turns)
         for line in some:
             yield line, list(itertools.islice(turns, len(line.events)))

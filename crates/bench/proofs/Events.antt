@@ -19,8 +19,10 @@ use Rattle.table.specs.Rows.{isTable, recordsOf}
 use Rattle.table.specs.Step.{stepIn, stepOf}
 use Rattle.table.specs.Why.{hostWhy, reasonNumber, whyOf}
 use Rattle.table.specs.declared.rules.answer.Answer.{Answer}
+use Rattle.table.specs.declared.rules.why.Why.{Why}
 use Rattle.table.specs.declared.rules.event.Event.{Event}
 use Rattle.table.specs.declared.rules.event.Event.the-variants as event
+use Rattle.bench.specs.Changes.{changesLines}
 use Rattle.bench.specs.Facts.{droppedBy, factsOf, holdOf, onCounts, reportedBy, setsHold}
 use Rattle.bench.specs.Line.{lineOf}
 use Rattle.bench.specs.Output.{Output, short, upTo, putOf, putAll}
@@ -91,6 +93,12 @@ module _ (r : Run) (ts : List ℕ) (e : Event) (xs l : List ℕ) (number : ℕ) 
   unfolding eventOutput eventLines shownBy putAll
   traced-output f p = rw (f, p, counted)
 
+  pub changed-output : r .prints ≡ prints.Changes →
+      o ≡ putAll (changesLines (playedOf r (recordsOf ts) e xs .answer) (scratchOf r (recordsOf ts) e xs) (whyOf (r .settings) (recordsOf ts) e xs 256) (recordsOf ts) (playedOf r (recordsOf ts) e xs .table)) (putOf (short (lineOf number (playedOf r (recordsOf ts) e xs .answer))) (upTo l (r .out))) →
+      o ≡ eventOutput r (recordsOf ts) e xs l
+  unfolding eventOutput eventLines shownBy putAll
+  changed-output f p = rw (f, p, counted)
+
   pub why-output : r .prints ≡ prints.Why →
       o ≡ putOf (short (whyLine number (whyOf (r .settings) (recordsOf ts) e xs 256))) (upTo l (r .out)) →
       o ≡ eventOutput r (recordsOf ts) e xs l
@@ -109,6 +117,16 @@ pub traced-lines : (r : Run) (ts : List ℕ) (e : Event) (xs : List ℕ) (number
     o₁ ≡ putOf (short (lineOf number a)) o → o₂ ≡ putAll (traceLines a scratch u) o₁ →
     o₂ ≡ putAll (traceLines (playedOf r (recordsOf ts) e xs .answer) (scratchOf r (recordsOf ts) e xs) (playedOf r (recordsOf ts) e xs .table)) (putOf (short (lineOf number (playedOf r (recordsOf ts) e xs .answer))) o)
 traced-lines r ts e xs number t u a scratch o o₁ o₂ h p f g = rw (g, f, p .0, p .1, p .2, h)
+
+-- the same of the table's octets before and after, with why
+pub changed-lines : (r : Run) (ts us : List ℕ) (e : Event) (xs : List ℕ) (number : ℕ) (w : Why) (a : Answer) (scratch before after : List ℕ) (o o₁ o₂ : Output) → isTable ts ≡ true → Made ts → Made xs →
+    before ≡ ts → after ≡ us → w ≡ hostWhy ts (r .settings) e xs 256 →
+    (a ≡ hostAnswer ts (r .settings) e xs zeros) × (us ≡ hostTable ts (r .settings) e xs zeros) × (scratch ≡ hostIn ts (r .settings) e xs zeros) →
+    o₁ ≡ putOf (short (lineOf number a)) o → o₂ ≡ putAll (changesLines a scratch w (recordsOf before) (recordsOf after)) o₁ →
+    o₂ ≡ putAll (changesLines (playedOf r (recordsOf ts) e xs .answer) (scratchOf r (recordsOf ts) e xs) (whyOf (r .settings) (recordsOf ts) e xs 256) (recordsOf ts) (playedOf r (recordsOf ts) e xs .table)) (putOf (short (lineOf number (playedOf r (recordsOf ts) e xs .answer))) o)
+changed-lines r ts us e xs number w a scratch before after o o₁ o₂ i m n b f h p g k =
+    let t = trip (r .settings) ts e xs us i m n (p .1) in
+    rw (k, g, b, f, h, p .0, p .2, host-answer ts (r .settings) e xs i, host-in ts (r .settings) e xs i, host-why ts (r .settings) e xs i, t .records)
 
 -- the run behind it, with the output k filled up to n
 pub event-run : (r : Run) (t : List Record) (e : Event) (xs l : List ℕ) (size number at n : ℕ) (k : List ℕ) → number ≡ numberAfter (r .number) →

@@ -31,6 +31,8 @@ pub mod MonthExample
 pub mod Refills
 pub mod StepLengths
 pub mod RowReads
+pub mod ChangedRows
+pub mod ChangesTold
 pub mod Replays
 pub mod SaidLines
 pub mod TableLines

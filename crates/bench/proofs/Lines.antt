@@ -7,6 +7,7 @@ use Rattle.table.specs.declared.rules.answer.Answer.{Answer}
 use Rattle.table.specs.declared.rules.why.Reason.{Reason}
 use Rattle.table.specs.declared.rules.why.Reason.the-variants.{None, Refusal, NoClass, ClassFilter, GroupRule, NothingToDo}
 use Rattle.table.specs.declared.rules.why.Why.{Why}
+use Rattle.bench.specs.Changes.{becauseText, freeLine}
 use Rattle.bench.specs.Line.{frontOf, backOf}
 use Rattle.bench.specs.Why.{refusalWord, whyLine, whyText, wordOf}
 use Rattle.bench.proofs.Digits.{field-length, tens-length}
@@ -33,3 +34,11 @@ word-length NothingToDo = omega arith
 pub why-length : (n : ℕ) (w : Why) → length (whyLine n w) ≤ 64
 unfolding whyText
 why-length n w = simp length-append (omega (arith, field-length 20 n, word-length (w .reason), tens-length 20 (w .value)))
+
+pub because-length : (r : Reason) (v : ℕ) → length (becauseText r v) ≤ 64
+unfolding becauseText
+because-length r v = simp length-append (omega (arith, word-length r, tens-length 20 v))
+
+pub free-length : (i : ℕ) → length (freeLine i) ≤ 64
+unfolding freeLine
+free-length i = simp length-append (omega (arith, tens-length 2 i))

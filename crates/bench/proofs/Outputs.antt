@@ -44,6 +44,9 @@ room-behind at room n h =
     (λ e. e ∙ sym (le-leb (at + room) n (omega (arith, leb-true room (n - at) e))))
     (λ e. e ∙ sym (lt-leb (at + room) n (omega (arith, leb-false room (n - at) e))))
 
--- three lists of lines, put one behind the other
+-- three lists of lines, or four, put one behind the other
 pub all-three : (us vs ws : List Line) (o o₁ o₂ o₃ : Output) → o₁ ≡ putAll us o → o₂ ≡ putAll vs o₁ → o₃ ≡ putAll ws o₂ → o₃ ≡ putAll (us ++ vs ++ ws) o
 all-three us vs ws o o₁ o₂ o₃ e f g = rw (g, f, e, all-behind (us ++ vs) ws o, all-behind us vs o)
+
+pub all-four : (us vs ws xs : List Line) (o o₁ o₂ o₃ o₄ : Output) → o₁ ≡ putAll us o → o₂ ≡ putAll vs o₁ → o₃ ≡ putAll ws o₂ → o₄ ≡ putAll xs o₃ → o₄ ≡ putAll (us ++ vs ++ ws ++ xs) o
+all-four us vs ws xs o o₁ o₂ o₃ o₄ e f g h = rw (h, all-three us vs ws o o₁ o₂ o₃ e f g, all-behind (us ++ vs ++ ws) xs o)

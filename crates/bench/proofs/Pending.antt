@@ -1,4 +1,4 @@
--- Where there is room for all lines, what is pending is what was pending before and then the lines; and an event asks for 6,848 octets.
+-- Where there is room for all lines, what is pending is what was pending before and then the lines; and an event asks for 6,912 octets.
 -- Assumes nothing.
 use Prim.Native.Nat.{ℕ, _+_, _*_, _≤_}
 use mathlib.Core.Path.{_≡_, sym, ap, _∙_}
@@ -12,9 +12,11 @@ use Rattle.octets.proofs.Branch.{pick-by}
 use Rattle.octets.specs.Links.{noLinks}
 use Rattle.peer.specs.Record.{isFree}
 use Rattle.peer.specs.declared.record.Record.{Record}
-use Rattle.table.specs.Why.{whyOf}
+use Rattle.table.specs.Why.{reasonNumber, whyOf}
 use Rattle.table.specs.declared.rules.answer.Answer.{Answer}
 use Rattle.table.specs.declared.rules.event.Event.{Event}
+use Rattle.table.specs.declared.rules.why.Why.{Why}
+use Rattle.bench.specs.Changes.{becauseLine, becauseLines, changedLines, changesLines, freeLine, movedLines, sameRecord}
 use Rattle.bench.specs.Line.{lineOf, stopLine}
 use Rattle.bench.specs.Output.{Output, Line, upTo, putOf, putAll, pending, said, roomFor, short}
 use Rattle.bench.specs.Play.{numberAfter}
@@ -25,7 +27,7 @@ use Rattle.bench.specs.declared.run.Prints.the-variants as prints
 use Rattle.bench.specs.declared.run.Prints.{Prints}
 use Rattle.bench.specs.declared.run.Run.{Run}
 use Rattle.bench.proofs.Counting.{facts-short}
-use Rattle.bench.proofs.Lines.{front-length, back-length, why-length}
+use Rattle.bench.proofs.Lines.{front-length, back-length, why-length, because-length, free-length}
 use Rattle.bench.proofs.TraceLines.{octets-line-length, current-line-length, name-length, times-length, query-name-length, query-times-length, links-line-length}
 
 -- No line is longer than the room that it asks for.
@@ -141,23 +143,52 @@ trace-within a s t h g =
     let w = both (both (octets-within (a .written) s h) (current-within a)) (table-within 0 t) in
     record { fits = w .fits; asks = omega (arith, w .asks) }
 
+because-within : (w : Why) → Within 64 (becauseLines w)
+unfolding becauseLines
+because-within w =
+    pick-by (Within 64) (eqb (reasonNumber (w .reason)) 0) (λ e. no-line) (λ e. one-line (short (becauseLine w)) (because-length (w .reason) (w .value)) (omega arith))
+
+moved-within : (i : ℕ) (p q : Record) → Within 192 (movedLines i p q)
+unfolding movedLines
+moved-within i p q =
+    pick-by (Within 192) (sameRecord p q) (λ e. no-line)
+    (λ e. pick-by (Within 192) (isFree q) (λ f. one-line (short (freeLine i)) (free-length i) (omega arith)) (λ f. place-within i q))
+
+changed-within : (i : ℕ) (t u : List Record) → Within (192 * length u) (changedLines i t u)
+unfolding changedLines
+changed-within i [] u = no-line
+changed-within i (p ∷ t) [] = no-line
+changed-within i (p ∷ t) (q ∷ u) =
+    let w = both (moved-within i p q) (changed-within (i + 1) t u) in
+    record { fits = w .fits; asks = omega (arith, w .asks) }
+
+changes-within : (a : Answer) (s : List ℕ) (w : Why) (t u : List Record) → length s ≡ 256 → length u ≡ 32 → Within 6848 (changesLines a s w t u)
+unfolding changesLines
+changes-within a s w t u h g =
+    let v = both (both (both (octets-within (a .written) s h) (current-within a)) (because-within w)) (changed-within 0 t u) in
+    record { fits = v .fits; asks = omega (arith, v .asks) }
+
 -- An event of a table of 32 records.
 module _ (r : Run) (t : List Record) (e : Event) (xs : List ℕ) (h : length (scratchOf r t e xs) ≡ 256) (g : length (playedOf r t e xs .table) ≡ 32) where
-  shown-within : (way : Prints) → Within 6848 (shownBy way (numberAfter (r .number)) (r .settings) t e xs)
+  shown-within : (way : Prints) → Within 6912 (shownBy way (numberAfter (r .number)) (r .settings) t e xs)
   unfolding shownBy
   shown-within prints.Lines = one-line _ (line-length (numberAfter (r .number)) (playedOf r t e xs .answer)) (omega arith)
   shown-within prints.Trace =
+      let w = both {m = 64} (one-line _ (line-length (numberAfter (r .number)) (playedOf r t e xs .answer)) (omega arith))
+      (trace-within (playedOf r t e xs .answer) (scratchOf r t e xs) (playedOf r t e xs .table) h g) in
+      record { fits = w .fits; asks = omega (arith, w .asks) }
+  shown-within prints.Changes =
       both {m = 64} (one-line _ (line-length (numberAfter (r .number)) (playedOf r t e xs .answer)) (omega arith))
-      (trace-within (playedOf r t e xs .answer) (scratchOf r t e xs) (playedOf r t e xs .table) h g)
+      (changes-within (playedOf r t e xs .answer) (scratchOf r t e xs) (whyOf (r .settings) t e xs 256) t (playedOf r t e xs .table) h g)
   shown-within prints.Why = one-line _ (why-length (numberAfter (r .number)) (whyOf (r .settings) t e xs 256)) (omega arith)
   shown-within prints.Facts = one-line _ (facts-short _ _ _ _ _) (omega arith)
 
-  pub event-within : Within 6848 (eventLines r t e xs)
+  pub event-within : Within 6912 (eventLines r t e xs)
   unfolding eventLines
   event-within = shown-within (r .prints)
 
   -- What an event adds to the octets to be written out: its lines, whole.
-  pub event-pending : (l : List ℕ) → r .out + 6848 ≤ length l → pending (eventOutput r t e xs l) ≡ take (r .out) l ++ said (eventLines r t e xs)
+  pub event-pending : (l : List ℕ) → r .out + 6912 ≤ length l → pending (eventOutput r t e xs l) ≡ take (r .out) l ++ said (eventLines r t e xs)
   unfolding eventOutput
   event-pending l k = let w = event-within in pending-all (eventLines r t e xs) (upTo l (r .out)) (w .fits) (omega (arith, w .asks))
 

@@ -58,5 +58,5 @@ unfolding validOf groupOf linksAt noLinks placeFits freshOf isFree withLinks net
 at-work = record { scratch = refl; table = refl; lines = refl; text = refl }
 
 -- What is pending then: its line, that of its place and that of its links.
-pub links-shown : (l : List ℕ) → 6848 ≤ length l → pending (eventOutput told (tableOf []) Links named l) ≡ lineOf 1 (playedOf told (tableOf []) Links named .answer) ++ placeLine 0 device ++ linksLine 0 device
+pub links-shown : (l : List ℕ) → 6912 ≤ length l → pending (eventOutput told (tableOf []) Links named l) ≡ lineOf 1 (playedOf told (tableOf []) Links named .answer) ++ placeLine 0 device ++ linksLine 0 device
 links-shown l h = event-pending told (tableOf []) Links named (at-work .scratch) (at-work .table) l h ∙ at-work .lines

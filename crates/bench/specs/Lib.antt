@@ -5,6 +5,7 @@ pub mod Line
 pub mod Block
 pub mod Play
 pub mod Trace
+pub mod Changes
 pub mod Facts
 pub mod Printed
 pub mod Plays

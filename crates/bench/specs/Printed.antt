@@ -16,6 +16,7 @@ use Rattle.table.specs.Why.{reasonNumber, whyOf}
 use Rattle.table.specs.declared.rules.answer.Answer.{Answer}
 use Rattle.table.specs.declared.rules.event.Event.{Event}
 use Rattle.table.specs.Input.{bodyOf, takenOf}
+use Rattle.bench.specs.Changes.{changesLines}
 use Rattle.bench.specs.Facts.{factsOf, onCounts}
 use Rattle.bench.specs.Line.{lineOf, stopLine}
 use Rattle.bench.specs.Output.{Line, short, said}
@@ -35,13 +36,16 @@ Shown = ℕ → Settings → List Record → Event → List ℕ → List Line
 abbrev pub counted : {A : Type 0} → (Answer → ℕ → List ℕ → Bool → ℕ → A) → Settings → List Record → Event → List ℕ → A
 counted f s t e xs = onCounts f (s .role) e xs (stepOf s t e xs 256 .answer) (reasonNumber (whyOf s t e xs 256 .reason)) (stepIn s t e xs zeros)
 
--- "one line an event"; "the output scratch is 256 zero bytes for each event". Behind it, where it is traced, the lines of the trace. 02, K4: or why it came
--- to that, in place of its line. K12: or what is counted of it, as octets.
+-- "one line an event"; "the output scratch is 256 zero bytes for each event". Behind it, where it is traced, the lines of the trace, or of these only what
+-- changed. 02, K4: or why it came to that, in place of its line. K12: or what is counted of it, as octets.
 unfoldable pub shownBy : Prints → Shown
 shownBy prints.Lines n s t e xs = short (lineOf n (stepOf s t e xs 256 .answer)) ∷ []
 shownBy prints.Trace n s t e xs =
     short (lineOf n (stepOf s t e xs 256 .answer)) ∷
     traceLines (stepOf s t e xs 256 .answer) (stepIn s t e xs zeros) (stepOf s t e xs 256 .table)
+shownBy prints.Changes n s t e xs =
+    short (lineOf n (stepOf s t e xs 256 .answer)) ∷
+    changesLines (stepOf s t e xs 256 .answer) (stepIn s t e xs zeros) (whyOf s t e xs 256) t (stepOf s t e xs 256 .table)
 shownBy prints.Why n s t e xs = short (whyLine n (whyOf s t e xs 256)) ∷ []
 shownBy prints.Facts n s t e xs = short (counted factsOf s t e xs) ∷ []
 
@@ -92,7 +96,7 @@ printedFrom w zero s (x ∷ xs) =
     said (w (numberAfter (s .number)) (s .settings) (s .table) e (bodyOf (x ∷ xs)))
     ++ printedFrom w (behindFirst (x ∷ xs)) (playedOn s e (bodyOf (x ∷ xs))) xs)
 
--- The output of `bench`, of `bench trace`, and of `bench why`.
+-- The output of `bench`, of `bench trace`, of `bench changes`, and of `bench why`.
 abbrev pub outputOf : Shown → List ℕ → List ℕ
 outputOf w xs = printedFrom w 0 atStart xs
 
@@ -101,6 +105,9 @@ benchOutput xs = outputOf (shownBy prints.Lines) xs
 
 abbrev pub traceOutput : List ℕ → List ℕ
 traceOutput xs = outputOf (shownBy prints.Trace) xs
+
+abbrev pub changesOutput : List ℕ → List ℕ
+changesOutput xs = outputOf (shownBy prints.Changes) xs
 
 abbrev pub whyOutput : List ℕ → List ℕ
 whyOutput xs = outputOf (shownBy prints.Why) xs

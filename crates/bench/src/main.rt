@@ -1,6 +1,7 @@
 // The bench program: records on standard input, one line an event on standard output.
 mod block;
 mod capture;
+mod changes;
 mod check;
 mod facts;
 mod import;
@@ -53,6 +54,7 @@ fn run_all(prints: Prints) {
 enum Mode {
     Plain,
     Trace,
+    Changes,
     Why,
     Import,
     Total,
@@ -100,6 +102,9 @@ fn asked_mode() -> Mode {
     if is_word(&word[..n], b"trace") {
         return Mode::Trace;
     }
+    if is_word(&word[..n], b"changes") {
+        return Mode::Changes;
+    }
     if is_word(&word[..n], b"total") {
         return Mode::Total;
     }
@@ -115,6 +120,7 @@ fn main() {
     match m {
         Mode::Plain => run_all(Prints::Lines),
         Mode::Trace => run_all(Prints::Trace),
+        Mode::Changes => run_all(Prints::Changes),
         Mode::Why => run_all(Prints::Why),
         Mode::Import => import_files(),
         Mode::Total => total_blocks(),
@@ -123,7 +129,7 @@ fn main() {
         Mode::Unknown => {
             io::write_all(
                 libc::STDERR_FILENO,
-                b"bench: unknown argument: 'trace', 'why', 'import SETTINGS CAPTURE', 'month FILE..', 'total', 'check INPUT LOG', or none, with the records on standard input\n",
+                b"bench: unknown argument: 'trace', 'changes', 'why', 'import SETTINGS CAPTURE', 'month FILE..', 'total', 'check INPUT LOG', or none, with the records on standard input\n",
             );
         }
     }

@@ -63,3 +63,19 @@ pub fn records_in(table: &[u8]) -> [Record; 32]
     }
     t
 }
+
+// A table's own octets, as an array.
+pub(crate) fn octets_in(table: &[u8]) -> [u8; 1536]
+    ensures { λ t. ⌜ (length (now (table .entry)) ≡ 1536 → t ≡ now (table .entry)) ⌝ }
+{
+    let mut t = [0u8; 1536];
+    if table.len() != 1536 {
+        return t;
+    }
+    let mut i = 0;
+    while i < 1536 {
+        t[i] = table[i];
+        i += 1;
+    }
+    t
+}

@@ -3,6 +3,7 @@ use crate::input::shift;
 use crate::line::write_stop;
 use crate::passed::one_more;
 use crate::text::has_room;
+use crate::ways::changed_event;
 use crate::ways::explained;
 use crate::ways::noted;
 use crate::ways::plain;
@@ -31,6 +32,8 @@ pub enum Prints {
     Lines,
     // Its line, and what a trace shows behind it.
     Trace,
+    // Its line, and behind it what changed, and why (changes.rt).
+    Changes,
     // Why it came to that, in place of its line (02, K4).
     Why,
     // What is counted of it, as octets (02, K12).
@@ -189,6 +192,10 @@ fn event(table: &mut [u8], output: &mut [u8], r: Run, e: Event, frame: &[u8], si
         }
         Prints::Trace => {
             next.out = traced_event(table, output, r, number, e, frame);
+            next
+        }
+        Prints::Changes => {
+            next.out = changed_event(table, output, r, number, e, frame);
             next
         }
         Prints::Why => {

@@ -13,7 +13,7 @@ ghost use Rattle.bench.specs.Output.{upTo, putAll};
 ghost use Rattle.bench.specs.Trace.{octetsLines, currentLines, hasQuery, linksLines, placeLines, queryLines, tableLines, traceLines};
 
 // The octets that an event wrote.
-fn trace_octets(output: &mut [u8], out: usize, written: u16, scratch: [u8; 256]) -> usize
+pub(crate) fn trace_octets(output: &mut [u8], out: usize, written: u16, scratch: [u8; 256]) -> usize
     ensures { λ r. ⌜ upTo (now (output .exit)) r ≡ putAll (octetsLines written scratch) (upTo (now (output .entry)) out) ⌝ }
 {
     let n = written as usize;
@@ -27,7 +27,7 @@ fn trace_octets(output: &mut [u8], out: usize, written: u16, scratch: [u8; 256])
 }
 
 // The current AP of a reassociation's indication.
-fn trace_current(output: &mut [u8], out: usize, answer: Answer) -> usize
+pub(crate) fn trace_current(output: &mut [u8], out: usize, answer: Answer) -> usize
     ensures { λ r. ⌜ upTo (now (output .exit)) r ≡ putAll (currentLines answer) (upTo (now (output .entry)) out) ⌝ }
 {
     if answer.notice != Told::REASSOCIATION_INDICATION {
@@ -71,7 +71,7 @@ fn trace_links(output: &mut [u8], out: usize, place: u8, p: Record) -> usize
 }
 
 // A place that is not free.
-fn trace_place(output: &mut [u8], out: usize, place: u8, p: Record) -> usize
+pub(crate) fn trace_place(output: &mut [u8], out: usize, place: u8, p: Record) -> usize
     ensures { λ r. ⌜ upTo (now (output .exit)) r ≡ putAll (placeLines place p) (upTo (now (output .entry)) out) ⌝ }
 {
     if p.is_free() {

@@ -1,10 +1,12 @@
 // An event, played on the table's octets without a check and printed: one function for each way to print it. Each gives where the next line goes.
+use crate::changes::changed;
 use crate::facts::hold_of;
 use crate::facts::reported_by;
 use crate::facts::sets_hold;
 use crate::facts::write_facts;
 use crate::lent::lent_play;
 use crate::line::write_line;
+use crate::rows::octets_in;
 use crate::rows::play_on;
 use crate::rows::play_on_in;
 use crate::rows::records_in;
@@ -22,6 +24,7 @@ ghost use Rattle.table.specs.Host.{hostAnswer, hostIn, hostTable};
 ghost use Rattle.table.specs.Rows.{recordsOf};
 ghost use Rattle.table.specs.Run.{Sound};
 ghost use Rattle.table.specs.Why.{hostWhy, reasonNumber, whyOf};
+ghost use Rattle.bench.specs.Changes.{changesLines};
 ghost use Rattle.bench.specs.Facts.{droppedBy, factsOf, onCounts};
 ghost use Rattle.bench.specs.Line.{lineOf};
 ghost use Rattle.bench.specs.Output.{putAll, putOf, short, upTo};
@@ -64,6 +67,27 @@ pub(crate) fn traced_event(
     let after = p.table;
     let at = write_line(&mut *output, r.out, number, answer);
     traced(output, at, answer, scratch, after)
+}
+
+// The same, with what changed behind it, and why.
+pub(crate) fn changed_event(
+    table: &mut [u8],
+    output: &mut [u8],
+    r: Run,
+    number: u64,
+    e: Event,
+    frame: &[u8],
+) -> usize
+    ensures { λ n. ⌜ (Ready r (now (table .entry)) → (now (table .exit) ≡ hostTable (now (table .entry)) (r .settings) e (now (frame .entry)) zeros) × (upTo (now (output .exit)) n ≡ putAll (changesLines (playedOf r (recordsOf (now (table .entry))) e (now (frame .entry)) .answer) (scratchOf r (recordsOf (now (table .entry))) e (now (frame .entry))) (whyOf (r .settings) (recordsOf (now (table .entry))) e (now (frame .entry)) 256) (recordsOf (now (table .entry))) (playedOf r (recordsOf (now (table .entry))) e (now (frame .entry)) .table)) (putOf (short (lineOf number (playedOf r (recordsOf (now (table .entry))) e (now (frame .entry)) .answer))) (upTo (now (output .entry)) (r .out))))) ⌝ }
+{
+    let mut scratch = [0u8; 256];
+    let s = r.settings;
+    let before = octets_in(&*table);
+    let w = why_on(&*table, s, r.fit, e, frame);
+    let answer = play_on_in(&mut *table, s, r.fit, e, frame, &mut scratch);
+    let after = octets_in(&*table);
+    let at = write_line(&mut *output, r.out, number, answer);
+    changed(output, at, answer, scratch, w, &before, &after)
 }
 
 // Why it came to what it did, in place of its line (02, K4).

@@ -23,7 +23,7 @@ fn put_refusal(out: &mut [u8], at: usize, number: u8) -> usize
 }
 
 // The word of a reason, and a blank.
-fn put_reason(out: &mut [u8], at: usize, reason: Reason) -> usize
+pub(crate) fn put_reason(out: &mut [u8], at: usize, reason: Reason) -> usize
     requires { ⌜ at + 16 ≤ length (now out) ⌝ }
     ensures { λ r. ⌜ (r ≡ at + length (wordOf reason)) × (Stored (now (out .entry)) at (wordOf reason) (now (out .exit))) ⌝ }
 {

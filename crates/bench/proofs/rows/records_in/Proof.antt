@@ -2,15 +2,18 @@
 -- Assumes nothing.
 use Prim.Native.Nat.{_-_, _≤_}
 use Rattle.bench.proofs.RowReads.{Read, read-all, read-none, read-step}
+use Rattle.peer.specs.Record.{freeOf}
+use Rattle.table.proofs.Octets.RowLaws.{length-records}
+use Rattle.table.specs.Rows.{recordsOf}
 use borrow.Author.Needs.{needs}
 use lib.ListN.{length, length-set}
-use mathlib.Core.Path.{_≡_}
+use mathlib.Core.Path.{_≡_, sym, _∙_}
 use native.Mathlib.Omega.{arith}
 use Rattle.bench.proofs.rows.records_in.Statement.{statement}
 use Rattle.bench.proofs.rows.records_in.Tie as tie
 
 abbrev Inv-loop : tie.InvT-loop
-Inv-loop table t₀ i₀ t i = (i ≤ 32) × (length t ≡ 32) × (Read table i t)
+Inv-loop table t₀ i₀ t i = (i ≤ 32) × (length t ≡ 32) × (Read (recordsOf table) i t)
 
 abbrev μ-loop : tie.MeasureT-loop
 μ-loop table t₀ i₀ t i = 32 - i
@@ -37,10 +40,10 @@ loop-less : tie.Need-loop-less Inv-loop μ-loop
 loop-less c = search needs
 
 loop-again : tie.Need-loop-again Inv-loop μ-loop
-loop-again c = (omega arith, simp length-set (c .before .before .loop .inv .1), read-step _ (c .before .before .loop .inv .2) (c .before .before .loop .inv .1) (omega arith) (c .look .ensures))
+loop-again c = (omega arith, simp length-set (c .before .before .loop .inv .1), read-step _ freeOf (c .before .before .loop .inv .2) (c .before .before .loop .inv .1 ∙ sym (length-records 32 0 _)) (rw (length-records 32 0) (omega arith)) (c .look .ensures))
 
 returns : tie.Need-returns Inv-loop μ-loop
-returns c = read-all (c .before .loop .inv .2) (c .before .loop .inv .1) (omega arith)
+returns c = read-all (c .before .loop .inv .2) (c .before .loop .inv .1 ∙ sym (length-records 32 0 _)) (rw (length-records 32 0) (omega arith))
 
 pub records-in-spec : {M : Type 1} → statement M
 records-in-spec =

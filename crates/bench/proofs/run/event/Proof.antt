@@ -1,6 +1,6 @@
--- `bench::run::event` meets its contract: played and printed in one of four ways, and the run behind it.
+-- `bench::run::event` meets its contract: played and printed in one of five ways, and the run behind it.
 -- Assumes nothing.
-use Rattle.bench.proofs.Events.{event-run, facts-output, plain-output, traced-output, why-output}
+use Rattle.bench.proofs.Events.{changed-output, event-run, facts-output, plain-output, traced-output, why-output}
 use Rattle.bench.specs.Output.{Output, upTo}
 use Rattle.bench.specs.Run.{eventOutput}
 use Rattle.table.specs.Rows.{recordsOf}
@@ -31,11 +31,17 @@ traced-event-requires c κs = search needs
 enum-told-3 : tie.Need-enum-told-3
 enum-told-3 c = search needs
 
-explained-requires : tie.Need-explained-requires
-explained-requires c κs = search needs
+changed-event-requires : tie.Need-changed-event-requires
+changed-event-requires c κs = search needs
 
 enum-told-4 : tie.Need-enum-told-4
 enum-told-4 c = search needs
+
+explained-requires : tie.Need-explained-requires
+explained-requires c κs = search needs
+
+enum-told-5 : tie.Need-enum-told-5
+enum-told-5 c = search needs
 
 noted-requires : tie.Need-noted-requires
 noted-requires c κs = search needs
@@ -91,9 +97,9 @@ returns-3 c =
     let ts = now (a .table) in
     let n = c .before .before .before .before .before .before .before .before .before .before .one-more .ensures in (
       λ i.
-          let h : upTo (c .before .before .before .before .explained .last .1 .0) (c .before .before .before .before .explained .result) ≡ eventOutput (a .r) (recordsOf ts) (a .e) (now (a .frame)) (now (a .output)) =
-          why-output (a .r) ts (a .e) (now (a .frame)) (now (a .output)) _ n _ (c .before .before .before .before .before .before .before .enum-told3 .given .1) (c .before .before .before .before .explained .ensures i .1) in
-          (c .before .before .before .before .explained .ensures i .0, event-run (a .r) (recordsOf ts) (a .e) (now (a .frame)) (now (a .output)) (a .size) _ _ _ _ n (c .before .before .before .before .before .before .before .before .before .behind .ensures) h, ap (λ (o : Output). o .octets) h),
+          let h : upTo (c .before .before .before .before .changed-event .last .1 .0) (c .before .before .before .before .changed-event .result) ≡ eventOutput (a .r) (recordsOf ts) (a .e) (now (a .frame)) (now (a .output)) =
+          changed-output (a .r) ts (a .e) (now (a .frame)) (now (a .output)) _ n _ (c .before .before .before .before .before .before .before .enum-told3 .given .1) (c .before .before .before .before .changed-event .ensures i .1) in
+          (c .before .before .before .before .changed-event .ensures i .0, event-run (a .r) (recordsOf ts) (a .e) (now (a .frame)) (now (a .output)) (a .size) _ _ _ _ n (c .before .before .before .before .before .before .before .before .before .behind .ensures) h, ap (λ (o : Output). o .octets) h),
       λ k. c .before .before .before .before .before .before .before .before .before .before .before .before .before .slice-known .given k .fits,
       λ k. c .before .before .before .before .before .before .before .before .before .before .before .shared-slice-known .given k .fits,
     )
@@ -110,8 +116,27 @@ returns-4 c =
     let ts = now (a .table) in
     let n = c .before .before .before .before .before .before .before .before .before .before .one-more .ensures in (
       λ i.
+          let h : upTo (c .before .before .before .before .explained .last .1 .0) (c .before .before .before .before .explained .result) ≡ eventOutput (a .r) (recordsOf ts) (a .e) (now (a .frame)) (now (a .output)) =
+          why-output (a .r) ts (a .e) (now (a .frame)) (now (a .output)) _ n _ (c .before .before .before .before .before .before .before .enum-told4 .given .1) (c .before .before .before .before .explained .ensures i .1) in
+          (c .before .before .before .before .explained .ensures i .0, event-run (a .r) (recordsOf ts) (a .e) (now (a .frame)) (now (a .output)) (a .size) _ _ _ _ n (c .before .before .before .before .before .before .before .before .before .behind .ensures) h, ap (λ (o : Output). o .octets) h),
+      λ k. c .before .before .before .before .before .before .before .before .before .before .before .before .before .slice-known .given k .fits,
+      λ k. c .before .before .before .before .before .before .before .before .before .before .before .shared-slice-known .given k .fits,
+    )
+
+same-length-9 : tie.Need-same-length-9
+same-length-9 c = search needs
+
+same-length-10 : tie.Need-same-length-10
+same-length-10 c = search needs
+
+returns-5 : tie.Need-returns-5
+returns-5 c =
+    let a = c .before .before .before .before .before .before .before .before .before .before .before .before .before .before .args in
+    let ts = now (a .table) in
+    let n = c .before .before .before .before .before .before .before .before .before .before .one-more .ensures in (
+      λ i.
           let h : upTo (c .before .before .before .before .noted .last .1 .0) (c .before .before .before .before .noted .result) ≡ eventOutput (a .r) (recordsOf ts) (a .e) (now (a .frame)) (now (a .output)) =
-          facts-output (a .r) ts (a .e) (now (a .frame)) (now (a .output)) _ n _ (i .sound .table) (λ k. c .before .before .before .before .before .before .before .before .before .before .before .before .before .slice-known .given k .fits) (λ k. c .before .before .before .before .before .before .before .before .before .before .before .shared-slice-known .given k .fits) (c .before .before .before .before .before .before .before .enum-told4 .given .1) (c .before .before .before .before .noted .ensures i .1) in
+          facts-output (a .r) ts (a .e) (now (a .frame)) (now (a .output)) _ n _ (i .sound .table) (λ k. c .before .before .before .before .before .before .before .before .before .before .before .before .before .slice-known .given k .fits) (λ k. c .before .before .before .before .before .before .before .before .before .before .before .shared-slice-known .given k .fits) (c .before .before .before .before .before .before .before .enum-told5 .given .1) (c .before .before .before .before .noted .ensures i .1) in
           (c .before .before .before .before .noted .ensures i .0, event-run (a .r) (recordsOf ts) (a .e) (now (a .frame)) (now (a .output)) (a .size) _ _ _ _ n (c .before .before .before .before .before .before .before .before .before .behind .ensures) h, ap (λ (o : Output). o .octets) h),
       λ k. c .before .before .before .before .before .before .before .before .before .before .before .before .before .slice-known .given k .fits,
       λ k. c .before .before .before .before .before .before .before .before .before .before .before .shared-slice-known .given k .fits,
@@ -128,8 +153,10 @@ event-spec =
     enum-told-2
     traced-event-requires
     enum-told-3
-    explained-requires
+    changed-event-requires
     enum-told-4
+    explained-requires
+    enum-told-5
     noted-requires
     same-length
     same-length-2
@@ -142,4 +169,7 @@ event-spec =
     returns-3
     same-length-7
     same-length-8
-    returns-4)
+    returns-4
+    same-length-9
+    same-length-10
+    returns-5)
