@@ -40,8 +40,9 @@ BAD = {
     (ROOT / NINE).read_bytes(): ("L: differs first at event 1 of 9, in the event's number", NO_LINE),
     b"1 none 0\n": ("L: differs first at event 1 of 9, in the refusal",
                     "         it has reasons, as 'bench why' gives them: the answers are wanted"),
-    LINES[0] + b"  place 0 020000000101 1 1 0 0\n": ("L: differs first at event 2 of 9, in the event's number",
-                                                     "         it has the lines of a trace: the plain lines alone are wanted"),
+    **{LINES[0] + line: ("L: differs first at event 2 of 9, in the event's number",
+                         "         it has the lines of a trace, or of changes: the plain lines alone are wanted")
+       for line in (b"  place 0 020000000101 1 1 0 0\n", b"  because nothing-to-do 0\n", b"  free 0\n")},
     RIGHT[:-1]: ("L: differs first at event 9 of 9, in the form of the line", "         its last line has no end"),
     LINES[0][:-1] + b" 7\n": ("L: differs first at event 1 of 9, in the form of the line",
                               "         it has more behind the eight fields"),

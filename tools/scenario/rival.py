@@ -59,7 +59,7 @@ def hint(line):
     if line.startswith(BYTE_ORDER):
         return "it begins with a byte order mark, which no answer has"
     if line.startswith(b"  "):
-        return "it has the lines of a trace: the plain lines alone are wanted"
+        return "it has the lines of a trace, or of changes: the plain lines alone are wanted"
     if WHY.fullmatch(fields):
         return "it has reasons, as 'bench why' gives them: the answers are wanted"
     if LINE.match(fields) and number.isdigit() and fields.count(" ") > 6:
