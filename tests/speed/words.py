@@ -1,7 +1,7 @@
 """Measures what a scenario in words takes beside its plain lines: python3 -m tests.speed.words [STREAM..] [--events N] [--runs N].
 
-For each stream the seconds that one waits for `./scenario FILE` and for `./scenario --lines FILE`, the least of some runs, and the
-processor's seconds of tool and program in that run; the ratio of both; and the memory of the tool when it tells in words. The goal is
+For each stream the seconds that one waits for `./scenario FILE` and for `./scenario --lines FILE`, and the processor's seconds of tool
+and program, the least of some runs in turn; the ratio of both; and the memory of the tool when it tells in words. The goal is
 to wait at most three times as long at 100,000 events; what else the machine does counts into it. On a processor that is not x86-64 the
 program runs under an emulator, and its share says nothing of another machine: --bench takes another program in its place.
 """
@@ -134,16 +134,19 @@ STREAMS = {stream.__name__: stream for stream in (office, mixed, crowd, links, r
 EVENTS = {"ranges": 8}
 
 
-def measured(words, runs):
-    """The least seconds waited, the processor's seconds in that run, and MiB of the tool's memory."""
-    found = []
-    for _ in range(runs):
-        started = time.perf_counter()
-        done = subprocess.run([sys.executable, "-c", PLAY, *words], stdout=subprocess.DEVNULL, stderr=subprocess.PIPE, text=True, cwd=ROOT)
-        if done.returncode:
-            sys.exit(f"words: a scenario was not played:\n{done.stderr}")
-        found.append((time.perf_counter() - started, *map(float, done.stderr.split("\n")[-2].split())))
-    return min(found)
+def measured(words):
+    """The seconds waited, the processor's seconds, and MiB of the tool's memory."""
+    started = time.perf_counter()
+    done = subprocess.run([sys.executable, "-c", PLAY, *words], stdout=subprocess.DEVNULL, stderr=subprocess.PIPE, text=True, cwd=ROOT)
+    if done.returncode:
+        sys.exit(f"words: a scenario was not played:\n{done.stderr}")
+    return time.perf_counter() - started, *map(float, done.stderr.split("\n")[-2].split())
+
+
+def both(words, lines, runs):
+    """The least of each over some runs of both, in turn, as a machine may be slower for a while."""
+    found = [(measured(words), measured(lines)) for _ in range(runs)]
+    return [[min(values) for values in zip(*one)] for one in zip(*found)]
 
 
 def main():
@@ -165,8 +168,7 @@ def main():
             # Not as one text: a child's memory is counted from that of its parent on.
             with file.open("w") as text:
                 text.writelines(line + "\n" for line in lines)
-            told, spent, memory = measured([*program, str(file)], given.runs)
-            plain, spent_plain, _ = measured([*program, "--lines", str(file)], given.runs)
+            (told, spent, memory), (plain, spent_plain, _) = both([*program, str(file)], [*program, "--lines", str(file)], given.runs)
             waited = f"{told:>9.2f}{plain:>9.2f}{told / plain:>7.2f}"
             print(f"{name:<12}{waited}{spent:>11.2f}{spent_plain:>7.2f}{spent / spent_plain:>7.2f}{memory:>7.1f}", flush=True)
 
