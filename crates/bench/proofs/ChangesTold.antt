@@ -1,10 +1,10 @@
--- What `bench changes` shows is enough: a place that it does not show has the record that it had, and one that it shows has another. So the table after
--- any event is known from the lines so far; the tool that tells scenarios in words holds it so.
+-- What `bench changes` does not show: a place that it does not show has the record that it had, and one that it shows has another. The tool that tells
+-- scenarios in words holds the table so. That the lines of a place say which record it has is not claimed here.
 -- Assumes nothing.
-use Prim.Native.Nat.{ℕ, suc}
+use Prim.Native.Nat.{ℕ, suc, _+_}
 use mathlib.Core.Path.{_≡_, refl, sym, ap, _∙_}
 use mathlib.Core.Bool.{Bool, true, false}
-use mathlib.Core.List.{List, [], _∷_}
+use mathlib.Core.List.{List, [], _∷_, _++_}
 use borrow.Author.Tests.{eqb-true}
 use lib.Dec.{eqb}
 use lib.ListN.{length}
@@ -15,12 +15,18 @@ use Rattle.peer.proofs.Fits.{both, clash}
 use Rattle.peer.specs.Query.{queryLeft, queryNumber}
 use Rattle.peer.specs.Record.{exchangeNumber, isFree}
 use Rattle.peer.specs.declared.record.Record.{Record}
+use Rattle.peer.specs.declared.settings.Settings.{Settings}
 use Rattle.table.proofs.Octets.RowLaws.{record-back}
+use Rattle.table.proofs.Theorems.RefusedKeeps.{refused-keeps}
 use Rattle.table.specs.Rows.{recordOf, rowOf}
-use Rattle.bench.specs.Changes.{movedLines, sameLinks, sameQuery, sameRecord, sameTimes}
+use Rattle.table.specs.Step.{stepOf}
+use Rattle.table.specs.declared.rules.event.Event.{Event}
+use Rattle.bench.specs.Changes.{changedLines, movedLines, sameLinks, sameQuery, sameRecord, sameTimes}
 use Rattle.bench.specs.Output.{Line}
+use Rattle.bench.specs.Play.{zeros}
 use Rattle.bench.specs.Trace.{placeLines}
 use Rattle.bench.proofs.ChangedRows.{moved-none}
+use Rattle.bench.proofs.StepLengths.{step-same}
 
 links-same : (a b : Links) → sameLinks a b ≡ true → a ≡ b
 unfolding sameLinks
@@ -58,13 +64,17 @@ same-is-one p q h =
     ) in
     sym (record-back p) ∙ (ap recordOf rows ∙ record-back q)
 
+some : {v : Line} {vs : List Line} → v ∷ vs ≡ [] → ⊥
+some {v} {vs} e = let z : suc (length vs) ≡ 0 = ap length e in omega arith
+
+none-of-both : (vs ws : List Line) → vs ++ ws ≡ [] → (vs ≡ []) × (ws ≡ [])
+none-of-both [] ws e = (refl, e)
+none-of-both (v ∷ vs) ws e = absurd (some e)
+
 -- What is shown of a place that is another is never nothing.
 some-line : (i : ℕ) (p q : Record) → sameRecord p q ≡ false → movedLines i p q ≡ [] → ⊥
 unfolding movedLines placeLines
-some-line i p q h e = by-bool (isFree q) (λ f. no (rw (h, f) at e)) (λ f. no (rw (h, f) at e))
-  where
-    no : {v : Line} {vs : List Line} → v ∷ vs ≡ [] → ⊥
-    no {v} {vs} e = let z : suc (length vs) ≡ 0 = ap length e in omega arith
+some-line i p q h e = by-bool (isFree q) (λ f. some (rw (h, f) at e)) (λ f. some (rw (h, f) at e))
 
 -- A place shows nothing exactly if its record stayed.
 pub unshown-same : (i : ℕ) (p q : Record) → movedLines i p q ≡ [] → q ≡ p
@@ -72,3 +82,25 @@ unshown-same i p q e = by-bool (sameRecord p q) (λ h. sym (same-is-one p q h)) 
 
 pub same-unshown : (i : ℕ) (p q : Record) → q ≡ p → movedLines i p q ≡ []
 same-unshown i p q e = moved-none i p q (sym e)
+
+-- So a table of which no place is shown stayed as it was.
+pub none-shown : (i : ℕ) (t u : List Record) → length t ≡ length u → changedLines i t u ≡ [] → u ≡ t
+unfolding changedLines
+none-shown i [] [] n e = refl
+none-shown i [] (q ∷ u) n e = absurd (omega arith)
+none-shown i (p ∷ t) [] n e = absurd (omega arith)
+none-shown i (p ∷ t) (q ∷ u) n e =
+    let b = none-of-both (movedLines i p q) (changedLines (i + 1) t u) e in
+    rw (unshown-same i p q (b .0), none-shown (i + 1) t u (omega arith) (b .1))
+
+none-changed : (i : ℕ) (t : List Record) → changedLines i t t ≡ []
+unfolding changedLines
+none-changed i [] = refl
+none-changed i (p ∷ t) = rw (moved-none i p p refl) (none-changed (i + 1) t)
+
+-- An event that shows no place left the table as it was; and one that is refused is such an event.
+pub step-unshown : (s : Settings) (t : List Record) (e : Event) (xs : List ℕ) → changedLines 0 t (stepOf s t e xs 256 .table) ≡ [] → stepOf s t e xs 256 .table ≡ t
+step-unshown s t e xs h = none-shown 0 t (stepOf s t e xs 256 .table) (sym (step-same t s e xs 256)) h
+
+pub refused-unshown : (s : Settings) (t : List Record) (e : Event) (xs : List ℕ) → (stepOf s t e xs 256 .answer .refusal ≡ 0 → ⊥) → changedLines 0 t (stepOf s t e xs 256 .table) ≡ []
+refused-unshown s t e xs h = let k = refused-keeps s t e xs zeros h .table in rw k (none-changed 0 t)
