@@ -8,7 +8,7 @@ use borrow.Author.Tests.{le-ltb}
 use lib.ListN.{length, drop}
 use lib.Seq.{sets}
 use Rattle.octets.specs.Answer.{answer_bytes, answer_written}
-use Rattle.octets.specs.Field.{field, le, octets}
+use Rattle.octets.specs.Field.{field, octets}
 use Rattle.octets.proofs.Le.{le_octets}
 use Rattle.octets.proofs.Stores.{front}
 

@@ -1,7 +1,7 @@
 -- 02, K7: octets end with their last element exactly if they are the octets of a list of elements (`whole_elements`, `elements_whole`), and then
 -- the comeback is that of the first fitting element of that list (`elements_comeback`).
 -- Assumes nothing.
-use Prim.Native.Nat.{ℕ, zero, suc, ◌+◌, ◌≤◌}
+use Prim.Native.Nat.{ℕ, zero, suc, ◌≤◌}
 use mathlib.Core.Path.{◌≡◌, refl, sym, ◌∙◌}
 use mathlib.Core.Bool.{true, true≢false, ◌&&◌}
 use mathlib.Core.List.{List, [], ◌∷◌, ◌++◌}

@@ -1,7 +1,7 @@
 -- The answer to an event as it crosses to a host: 24 octets, little-endian. Current AP 8, the notice's code 2, octets written 2; refusal, verdict,
 -- notice, word to the distribution system 1 each; state 8 (so seven zeros end it).
 -- Assumes nothing.
-use Rattle.std.specs.Prelude.{ℕ, List, ◌∷◌, [], ◌++◌, ltb, length}
+use Rattle.std.specs.Prelude.{ℕ, List, ◌∷◌, ◌++◌, ltb, length}
 use Rattle.std.proofs.lemmas.List.Edits.{sets}
 use Rattle.octets.specs.Pick.{pick}
 use Rattle.octets.specs.Field.{octets}

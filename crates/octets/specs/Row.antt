@@ -1,7 +1,7 @@
 -- A record of a peer as it crosses to a host: 48 octets, little-endian: address 8, hold 4, left 2, state 1, exchange 1; then of the
 -- query its identifier 2, what is left of it 2, and its number 4; then four link addresses of 6.
 -- Assumes nothing.
-use Rattle.std.specs.Prelude.{ℕ, ◌+◌, List, [], ◌∷◌, ◌++◌, Bool, ◌&&◌, leb, eqb, length}
+use Rattle.std.specs.Prelude.{ℕ, ◌+◌, List, ◌∷◌, ◌++◌, Bool, ◌&&◌, leb, eqb, length}
 use Rattle.std.proofs.lemmas.List.Edits.{sets}
 use Rattle.octets.specs.Pick.{pick}
 use Rattle.octets.specs.Field.{field, octets}

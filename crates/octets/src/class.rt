@@ -5,7 +5,7 @@ ghost use Rattle.octets.specs.Class.{is_public_action, class_of, class_number, c
 
 use crate::field::octet_at;
 
-#[derive(Drop)]
+#[derive(Clone, Copy)]
 pub enum FrameClass {
     // No class: discarded.
     None,

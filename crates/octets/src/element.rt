@@ -5,7 +5,7 @@ ghost use Rattle.octets.specs.Element.{wanted_at, comeback_of, ends, is_response
 use crate::field::{octet_at, u32_at};
 
 // The time in TU after which a rejected station may ask again. 0 is a time: it may ask at once.
-#[derive(Drop)]
+#[derive(Clone, Copy)]
 pub enum Comeback {
     Given(u32),
     Absent,

@@ -5,7 +5,7 @@ ghost use Rattle.octets.specs.Frame.{aid_field, capability_of, comeback_element,
 
 use crate::put::{put_address, put_octet, put_u16, put_u32};
 
-#[derive(Drop)]
+#[derive(Clone, Copy)]
 pub enum Body {
     Authentication {
         algorithm: u16,
@@ -40,7 +40,7 @@ pub enum Body {
     },
 }
 
-#[derive(Drop)]
+#[derive(Clone, Copy)]
 pub struct Frame {
     pub subtype: u8,
     pub address1: u64,

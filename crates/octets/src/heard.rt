@@ -7,14 +7,14 @@ use crate::field::{address_at, octet_at, u16_at};
 use crate::frame::Frame;
 
 // The three exchanges, each a request and a response.
-#[derive(Drop)]
+#[derive(Clone, Copy)]
 pub enum Kind {
     Authentication,
     Association,
     Reassociation,
 }
 
-#[derive(Drop)]
+#[derive(Clone, Copy)]
 pub enum Heard {
     Other,
     Authentication {

@@ -1,4 +1,6 @@
 // Octets and classes: addresses, fields, frame classes, elements, what a frame says and how one is written. No state, no role.
+#![tactic(auto)]
+
 pub mod address;
 pub mod answer;
 pub mod class;

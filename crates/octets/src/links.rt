@@ -2,7 +2,7 @@
 ghost use Rattle.std.specs.Prelude.{◌≡◌, get_or};
 ghost use Rattle.octets.specs.Links.{links_of, no_links, unlinked};
 
-#[derive(Drop)]
+#[derive(Clone, Copy)]
 pub struct Links {
     pub one: u64,
     pub two: u64,

@@ -1,4 +1,4 @@
-// A record of a peer as it crosses to a host: numbers only, in 48 octets.
+// A record of a peer as it crosses to a host: numbers only, in 48 octets. Whether rows are free is asked in vacant.rt, and named here too.
 ghost use Rattle.std.specs.Prelude.{◌≡◌, ◌+◌, ◌≤◌, leb, get_or, length};
 ghost use Rattle.octets.specs.Field.{field};
 ghost use Rattle.octets.specs.Stored.{Stored};
@@ -7,8 +7,9 @@ ghost use Rattle.octets.specs.Row.{head_in, head_octets, query_octets, row_at, r
 
 use crate::links::Links;
 use crate::put::{put_address, put_octet, put_u16, put_u32, put_u64};
+pub use crate::vacant::{blank_at, blank_four, linkless_at, linkless_four};
 
-#[derive(Drop)]
+#[derive(Clone, Copy)]
 pub struct Row {
     pub address: u64,
     pub hold: u32,

@@ -5,7 +5,7 @@ ghost use Rattle.octets.specs.Shape.{least_of, least_management, is_bare, shape_
 use crate::class::{class, is_none};
 use crate::field::octet_at;
 
-#[derive(Drop)]
+#[derive(Clone, Copy)]
 pub enum Shape {
     // Too short or too long.
     Misfit,

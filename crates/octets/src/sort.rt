@@ -5,7 +5,7 @@ ghost use Rattle.octets.specs.Sort.{class_by, is_listed, sort_of};
 use crate::class::{FrameClass, class_in, listed};
 use crate::field::octet_at;
 
-#[derive(Drop)]
+#[derive(Clone, Copy)]
 pub enum Sort {
     // From the type and subtype in Frame Control's first octet, which is this.
     Listed(u8),

@@ -6,7 +6,7 @@
 --     heard-rejection                                  a station that hears a rejection goes to State 2
 -- Assumes nothing.
 use Rattle.std.proofs.Common.{◌≡◌, ℕ, ◌≤◌, Bool, true, false, not, ◌&&◌, eqb, ltb, leb, refl, arith, le-ltb, ne_eqb, eqb-true, leb-true}
-use borrow.Author.Tests.{eqb-false, not_true}
+use borrow.Author.Tests.{eqb-false, not-true}
 use Rattle.octets.proofs.Branch.{by_bool, pick_both, pick_by}
 use Rattle.octets.specs.Address.{valid_of}
 use Rattle.octets.specs.Links.{no_links, unlinked}
@@ -22,11 +22,11 @@ use Rattle.peer.specs.Moves.{ds_left, ds_none, ds_of, moved_of}
 use Rattle.peer.specs.Record.{changed_of, is_joined, is_sent}
 use Rattle.peer.specs.Refuse.{code_allowed, mismatch_of, one, role_allowed}
 use Rattle.peer.specs.Settings.{ap, network_fits, query_times_fit, role_answers, role_asks, role_associates, settings_fit, time_fits}
-use Rattle.peer.specs.Turn.{ended_of, none, turn_of}
+use Rattle.peer.specs.Turn.{ended_of, turn_of}
 use Rattle.peer.specs.declared.moves.Move.TheVariants as move
 use Rattle.peer.specs.declared.moves.Move.{Move}
 use Rattle.peer.specs.declared.query.Query.TheVariants as query
-use Rattle.peer.specs.declared.exchange.Exchange.TheVariants.{Asked, None, Sent}
+use Rattle.peer.specs.declared.exchange.Exchange.TheVariants.{Asked, Sent}
 use Rattle.peer.specs.declared.record.Record.{Record}
 use Rattle.peer.specs.declared.refuse.Others.{Others}
 use Rattle.peer.specs.declared.settings.Settings.{Settings}
@@ -45,7 +45,7 @@ one_of_three s h =
     let b = both (time_fits s.authentication) _ (both (leb s.rsna 1) _ a.1).1 in
     let c = both (leb s.protection 1) _ (both (time_fits s.association) _ b.1).1 in
     let d = both (not (eqb s.edition 0)) _ c.1 in
-    let ne = eqb-false s.edition 0 (not_true (eqb s.edition 0) d.0) in
+    let ne = eqb-false s.edition 0 (not-true (eqb s.edition 0) d.0) in
     (omega arith, leb-true s.edition 2 (both (leb s.edition 2) _ d.1).0, leb-true s.protection 1 c.0)
 
 abbrev pub kind_asked : ℕ → Kind
@@ -57,7 +57,7 @@ pub declines :
 unfolding ask_of respond_of
 declines s aid p o q code r =
     let b = both (one q 7 8) _ r in
-    let c = not_true (eqb code 0) b.1 in
+    let c = not-true (eqb code 0) b.1 in
     by_bool (eqb q 7) (λ e. rw (eqb-true q 7 e, c)) (λ e. rw (eqb-true q 8 (rw e at b.0), c))
 
 module _ (s : Settings) (aid : ℕ) (p : Record) (o : Others) (q code : ℕ) (r : rejects q code ≡ true) where

@@ -20,7 +20,6 @@ use Rattle.peer.specs.Filter.{barred_by, barred_of, filtered_of, request_barred}
 use Rattle.peer.specs.Hear.{act_of, group_heard, hear_of}
 use Rattle.peer.specs.Query.{query_report, query_timed, reaches, running_report, running_timed}
 use Rattle.peer.specs.Record.{changed_of}
-use Rattle.peer.specs.Refuse.{one}
 use Rattle.peer.specs.Reply.{authentication_to, deauthentication_to, disassociation_to, network_address, query_to, request_to, response_to, send_of}
 use Rattle.peer.specs.Settings.{ap}
 use Rattle.peer.specs.Tick.{queried_timed, reported_of, tick_of, timed_of}

@@ -1,11 +1,10 @@
 -- Where there is nothing to do for a frame (specs/Idle.antt), its turn leaves the record, tells nothing and says nothing; where there is something, it
 -- tells our own side, says something, or ends a query.
 -- Assumes nothing.
-use Rattle.std.proofs.Common.{◌≡◌, ℕ, Bool, true, false, not, ◌&&◌, ◌||◌, eqb, ltb, leb, sym, refl, ◌∙◌, arith, le-ltb, lt-ltb, eqb-true, leb-false, leb-true}
+use Rattle.std.proofs.Common.{◌≡◌, ℕ, Bool, true, false, not, ◌&&◌, ◌||◌, eqb, ltb, sym, refl, ◌∙◌, arith, le-ltb, lt-ltb, eqb-true, leb-false, leb-true}
 use mathlib.Core.Bool.{or-false}
-use borrow.Author.Tests.{not-false, not_true}
+use borrow.Author.Tests.{not-false, not-true}
 use Rattle.octets.proofs.Branch.{and_left, and_right, by_bool, pick_both, pick_by}
-use Rattle.octets.specs.Pick.{pick}
 use Rattle.octets.specs.declared.class.FrameClass.{FrameClass}
 use Rattle.octets.specs.declared.element.Comeback.{Comeback}
 use Rattle.octets.specs.declared.frame.Frame.{Frame}
@@ -15,7 +14,7 @@ use Rattle.octets.specs.declared.heard.Kind.TheVariants.{Association, Authentica
 use Rattle.octets.specs.declared.heard.Kind.{Kind}
 use Rattle.peer.specs.Association.{accepted_of, rejected_of, request_heard, response_heard}
 use Rattle.peer.specs.Authentication.{authentication_answered, authentication_asked, authentication_heard, full_of, requested_of}
-use Rattle.peer.specs.Challenge.{challenged_of, is_challenged, passed_of, query_request_heard, query_response_heard}
+use Rattle.peer.specs.Challenge.{challenged_of, is_challenged, query_request_heard, query_response_heard}
 use Rattle.peer.specs.Codes.{last_aid}
 use Rattle.peer.specs.Farewell.{deauthentication_heard, disassociation_heard}
 use Rattle.peer.specs.Filter.{passes_of}
@@ -24,8 +23,8 @@ use Rattle.peer.specs.Idle.{acts_of, authentication_acts, group_barred, idle_of,
 use Rattle.peer.specs.Query.{is_running}
 use Rattle.peer.specs.Record.{is_sent, queried_of}
 use Rattle.peer.specs.Reply.{authentication_to, later_to, query_to, send_of}
-use Rattle.peer.specs.Settings.{ap, role_answers}
-use Rattle.peer.specs.Turn.{admit, confirm_of, discard, indication_of, replied_of, sole_of, still_of, told_of, turn_of}
+use Rattle.peer.specs.Settings.{role_answers}
+use Rattle.peer.specs.Turn.{admit, confirm_of, indication_of, replied_of, sole_of, still_of, turn_of}
 use Rattle.peer.specs.declared.query.Query.TheVariants as query
 use Rattle.peer.specs.declared.record.Record.{Record}
 use Rattle.peer.specs.declared.reply.Reply.TheVariants.{Send}
@@ -125,8 +124,8 @@ module _ (s : Settings) (p : Record) where
     unfolding Still hear_of group_heard group_barred idle_of
     hear_idle e = rw in-class (pick_by Still g
         (λ r. pick_by Still (is_exchange h) (λ x. clash x (rw r at allowed))
-        (λ x. pick_by Still (is_query h) (λ q. refl) (λ q. act_idle h (not_true _ (sym (or-false (not (acts_of s p h))) ∙ rw (r, q) at e)))))
-        (λ r. act_idle h (not_true _ (sym (or-false (not (acts_of s p h))) ∙ rw r at e))))
+        (λ x. pick_by Still (is_query h) (λ q. refl) (λ q. act_idle h (not-true _ (sym (or-false (not (acts_of s p h))) ∙ rw (r, q) at e)))))
+        (λ r. act_idle h (not-true _ (sym (or-false (not (acts_of s p h))) ∙ rw r at e))))
 
     pub hear_done : idle_of s p g h ≡ false → Done p (hear_of s p k g h)
     unfolding hear_of group_heard group_barred idle_of

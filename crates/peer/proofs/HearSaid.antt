@@ -2,7 +2,7 @@
 -- frame, what it says, the peer's state and the query to it, with its addresses and every other octet (`hear_said`; `full_said` where no place is free).
 -- Assumes nothing.
 use Rattle.std.proofs.Common.{◌≡◌, ℕ, ◌≤◌, Bool, true, false, not, ◌&&◌, ◌||◌, eqb, ltb, leb, List, [], ◌∷◌, sym, refl, arith, eqb-true, leb-false}
-use borrow.Author.Tests.{not_true, not-false}
+use borrow.Author.Tests.{not-true, not-false}
 use Rattle.octets.proofs.Below.{heard_fits}
 use Rattle.octets.proofs.Branch.{and_left, and_right, by_bool, pick_both, pick_by}
 use Rattle.octets.specs.Address.{valid_of}
@@ -133,7 +133,7 @@ module _ (s : Settings) (fit : settings_fit s ≡ true) (p : Record) (valid : va
   heard_said k group h c f =
       let w = replied_says s p.state p.query (number_of k) h in
       pick_by (Turned w) (not (passes_of s.role k p.state))
-      (λ e. barred_by_lem s p (Speaks s p.address w) k group h tt (λ on. barred k h c on (not_true _ e)))
+      (λ e. barred_by_lem s p (Speaks s p.address w) k group h tt (λ on. barred k h c on (not-true _ e)))
       (λ e. pick_both (Turned w) group (pick_both (Turned w) (is_exchange h) tt (pick_both (Turned w) (is_query h) tt (acted k h c f))) (acted k h c f))
 
   -- The reply to a frame xs that has a class, where there are access points (i) and where there are none.

@@ -1,7 +1,7 @@
 -- 02, K6, "One long step or two short", of a record before it may be freed: its times fall by d, then by e, as they fall by d + e.
 -- Assumes nothing.
 use Rattle.std.proofs.Common.{◌≡◌, ℕ, ◌+◌, ◌-◌, true, false, not, eqb, ltb, leb, sym, refl, arith, ltb-false, ltb-true, le-ltb, lt-ltb, ne_eqb, leb-true}
-use borrow.Author.Tests.{not_true}
+use borrow.Author.Tests.{not-true}
 use Rattle.octets.proofs.Branch.{and_left, and_right, by_bool}
 use Rattle.octets.specs.declared.heard.Kind.TheVariants as kind
 use Rattle.octets.specs.declared.heard.Kind.{Kind}
@@ -48,8 +48,8 @@ module _ (s : Settings) where
   unfolding running_fits query_stands role_asks
   fits_none state query.None r h = refl
   fits_none state (query.Running left due) r h =
-      clash (and_left (eqb s.role ap) _ (and_right (leb left s.maximum) _ (and_right (not (eqb left 0)) _ h))) (not_true (eqb s.role ap) r)
-  fits_none state query.TimedOut r h = clash (and_left (eqb s.role ap) _ h) (not_true (eqb s.role ap) r)
+      clash (and_left (eqb s.role ap) _ (and_right (leb left s.maximum) _ (and_right (not (eqb left 0)) _ h))) (not-true (eqb s.role ap) r)
+  fits_none state query.TimedOut r h = clash (and_left (eqb s.role ap) _ h) (not-true (eqb s.role ap) r)
 
   fits_busy :
       (x : Exchange) (q : Query) (state left : ℕ) → exchange_fits x s.role state left ≡ true → query_fits s state q ≡ true → eqb left 0 ≡ false

@@ -2,8 +2,8 @@
 -- of the retry time, counted from the query's start, that had not been reached before (`reached_multiple`, `multiple_reached`). 02, K6, "sums that reach
 -- no retry": so many TU reach one exactly if such a multiple lies before the maximum (`retried_multiple`, `multiple_retried`).
 -- Assumes nothing.
-use Rattle.std.proofs.Common.{◌≡◌, ℕ, ◌+◌, ◌-◌, ◌*◌, ◌/◌, ◌<◌, ◌≤◌, true, false, not, ◌||◌, eqb, ltb, leb, sym, refl, ◌∙◌, le_trans, lt_of_lt_of_le, lt_of_le_of_lt, div-lt_iff_lt-mul, le-div_iff_mul-le, arith, ltb-true, lt-ltb, ne_eqb, le-leb, leb-false, leb-true}
-use borrow.Author.Tests.{eqb-false, lt-leb, not_true}
+use Rattle.std.proofs.Common.{◌≡◌, ℕ, ◌+◌, ◌-◌, ◌*◌, ◌/◌, ◌<◌, ◌≤◌, true, false, not, ◌||◌, eqb, leb, sym, refl, ◌∙◌, le_trans, lt_of_lt_of_le, lt_of_le_of_lt, div-lt_iff_lt-mul, le-div_iff_mul-le, arith, ltb-true, lt-ltb, ne_eqb, le-leb, leb-false, leb-true}
+use borrow.Author.Tests.{eqb-false, lt-leb, not-true}
 use Rattle.octets.proofs.Branch.{and_left, and_right, by_bool}
 use Rattle.peer.specs.Query.{reaches, running_retried}
 use Rattle.peer.specs.declared.settings.Settings.{Settings}
@@ -21,7 +21,7 @@ module _ (s : Settings) (left d : ℕ) where
   pub reached_multiple : reaches s left d ≡ true → Between s left d ((since s left + d) / s.retry)
   unfolding reaches
   reached_multiple h =
-      let some = eqb-false s.retry 0 (not_true (eqb s.retry 0) (and_left (not (eqb s.retry 0)) _ h)) in
+      let some = eqb-false s.retry 0 (not-true (eqb s.retry 0) (and_left (not (eqb s.retry 0)) _ h)) in
       let positive : 0 < s.retry = omega arith in
       let fewer = ltb-true (since s left / s.retry) ((since s left + d) / s.retry) (and_right (not (eqb s.retry 0)) _ h) in (
         (div-lt_iff_lt-mul {k = s.retry} {x = since s left} {y = (since s left + d) / s.retry} positive).0 fewer,

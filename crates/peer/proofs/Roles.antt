@@ -2,7 +2,7 @@
 -- role that what holds of each of its answers holds of the rule.
 -- Assumes nothing.
 use Rattle.std.proofs.Common.{◌≡◌, ℕ, ◌≤◌, Bool, true, false, not, ◌&&◌, ◌||◌, eqb, ltb, leb, refl, arith, eqb-true, leb-true}
-use borrow.Author.Tests.{eqb-false, not-false, not_true}
+use borrow.Author.Tests.{eqb-false, not-false, not-true}
 use Rattle.octets.proofs.Branch.{and_left, and_right, by_bool, pick_both, pick_by}
 use Rattle.octets.specs.Pick.{pick}
 use Rattle.octets.specs.declared.class.FrameClass.{FrameClass}
@@ -75,7 +75,7 @@ module _ (role : ℕ) where
 module _ (s : Settings) (fit : settings_fit s ≡ true) where
   pub role_low : s.role ≡ 0 → ⊥
   unfolding settings_fit
-  role_low = eqb-false s.role 0 (not_true (eqb s.role 0) (and_left (not (eqb s.role 0)) _ fit))
+  role_low = eqb-false s.role 0 (not-true (eqb s.role 0) (and_left (not (eqb s.role 0)) _ fit))
 
   pub role_high : s.role ≤ 3
   unfolding settings_fit
@@ -86,7 +86,7 @@ module _ (s : Settings) (fit : settings_fit s ≡ true) where
   unfolding role_asks role_associates role_answers
   no_answers asks joins =
       let two : s.role ≡ station =
-      omega (arith, role_low, role_high, eqb-false s.role ap (not_true _ asks), eqb-false s.role ad_hoc (not_true _ joins)) in
+      omega (arith, role_low, role_high, eqb-false s.role ap (not-true _ asks), eqb-false s.role ad_hoc (not-true _ joins)) in
       rw two
 
 -- the rules for a frame

@@ -1,7 +1,7 @@
 -- 02, K3: "The table's rule is shown once for the whole table." A verdict is 1 exactly where a frame passes the class filter, at an access point and at a
 -- station (`passes_verdict`); it is 0 exactly where the frame has no class (`classless_verdict`).
 -- Assumes nothing.
-use Rattle.std.proofs.Common.{◌≡◌, ℕ, ◌+◌, ◌-◌, ◌*◌, ◌/◌, ◌%◌, ◌<◌, ◌≤◌, Bool, true, false, eqb, leb, refl, arith}
+use Rattle.std.proofs.Common.{◌≡◌, ℕ, ◌+◌, ◌-◌, ◌*◌, ◌/◌, ◌%◌, ◌<◌, ◌≤◌, true, eqb, leb, refl, arith}
 use Rattle.octets.proofs.Branch.{by_bool}
 use Rattle.octets.specs.Class.{classless, listed_class}
 use Rattle.octets.specs.declared.class.FrameClass.TheVariants as class

@@ -5,7 +5,7 @@ ghost use Rattle.peer.specs.Record.{asked_of, awaiting_of, exchange_number, exch
 use octets::heard::Kind;
 
 // The exchange under way.
-#[derive(Drop)]
+#[derive(Clone, Copy)]
 pub enum Exchange {
     None,
     // A request was heard, and is to be answered (AP).

@@ -1,5 +1,7 @@
 // One peer: settings, a record, and what one frame, primitive or clock step makes of it. It sees no octets; of other
 // records it is told what it needs.
+#![tactic(auto)]
+
 pub mod ask;
 pub mod association;
 pub mod authentication;

@@ -6,7 +6,7 @@ use crate::record::Record;
 use crate::settings::Settings;
 
 // All moves of a state.
-#[derive(Drop)]
+#[derive(Clone, Copy)]
 pub enum Move {
     Keep,
     // An authentication succeeded.

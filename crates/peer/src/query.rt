@@ -5,7 +5,7 @@ ghost use Rattle.peer.specs.Query.{is_due, is_running, is_timed_out, query_in, q
 use crate::record::Record;
 use crate::settings::Settings;
 
-#[derive(Drop)]
+#[derive(Clone, Copy)]
 pub enum Query {
     None,
     // TU left of it, and whether its request is to be sent.

@@ -1,12 +1,16 @@
-// A peer's record: its address, its state, the exchange under way, the times left, a query to it, and its links.
+// A peer's record: its address, its state, the exchange under way, the times left, a query to it, and its links. An exchange
+// and its numbers are in exchange.rt, and named here too.
 ghost use Rattle.std.specs.Prelude.{◌≡◌};
 ghost use Rattle.peer.specs.Record.{associates, changed_of, free_of, fresh_of, is_free, is_joined, linked_of, queried_of, spoken_at};
 
-use crate::exchange::{ASSOCIATION, Exchange, under_way};
+pub use crate::exchange::{
+    ASSOCIATION, AUTHENTICATION, Exchange, REASSOCIATION, asked, associating, awaiting,
+    exchange_number, exchange_of, kind_number, sent, under_way,
+};
 use crate::query::{Query, query_in, query_number};
 use octets::links::Links;
 
-#[derive(Drop)]
+#[derive(Clone, Copy)]
 pub struct Record {
     pub address: u64,
     pub state: u8,

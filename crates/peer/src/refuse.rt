@@ -8,7 +8,7 @@ use crate::record::Record;
 use crate::settings::{Settings, answers, asks, associates};
 
 // What a station knows of its whole table: the address of the one in State 3 or 4, or 0; whether any (re)association is under way.
-#[derive(Drop)]
+#[derive(Clone, Copy)]
 pub struct Others {
     pub associated: u64,
     pub busy: bool,

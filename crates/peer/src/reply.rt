@@ -6,7 +6,7 @@ use crate::settings::Settings;
 use octets::frame::{Body, Frame, capability};
 use octets::heard::Kind;
 
-#[derive(Drop)]
+#[derive(Clone, Copy)]
 pub enum Reply {
     Silent,
     Send(Frame),

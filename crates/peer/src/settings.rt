@@ -5,7 +5,7 @@ ghost use Rattle.peer.specs.Settings.{network_fits, query_times_fit, role_answer
 use octets::address::valid;
 
 #[repr(C)]
-#[derive(Drop)]
+#[derive(Clone, Copy)]
 pub struct Settings {
     pub own: u64,
     // The address of an ad hoc network; not looked at in the other roles.

@@ -10,7 +10,7 @@ use crate::settings::Settings;
 use crate::turn::ended;
 
 // A record after a clock step, and the kind of its report, or 0: the exchange that timed out, or what the step makes of a query.
-#[derive(Drop)]
+#[derive(Clone, Copy)]
 pub struct Ticked {
     pub peer: Record,
     pub report: u8,

@@ -33,7 +33,7 @@ pub fn confirm(k: Kind) -> u8
 }
 
 // What our own side is told: a notice with its code, and the current AP of a reassociation's indication.
-#[derive(Drop)]
+#[derive(Clone, Copy)]
 pub struct Told {
     pub notice: u8,
     pub code: u16,
@@ -83,7 +83,7 @@ impl Told {
 }
 
 // What one event makes of one peer.
-#[derive(Drop)]
+#[derive(Clone, Copy)]
 pub struct Turn {
     pub peer: Record,
     pub told: Told,

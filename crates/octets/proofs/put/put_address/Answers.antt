@@ -1,0 +1,26 @@
+-- `octets::put::put_address` meets its contract: six stores, one behind the other.
+-- Assumes nothing.
+use Rattle.octets.specs.Field.{octets}
+use lib.ListN.{length-set}
+use native.Mathlib.Numerals.{towards_suc}
+use native.Mathlib.Omega.{arith}
+use Rattle.octets.proofs.put.put_address.Goals as goal
+
+pub bounds-out-at-2 : goal.bounds-out-at-2
+bounds-out-at-2 c = simp length-set (omega arith)
+
+pub bounds-out-at-3 : goal.bounds-out-at-3
+bounds-out-at-3 c = simp length-set (omega arith)
+
+pub bounds-out-at-4 : goal.bounds-out-at-4
+bounds-out-at-4 c = simp length-set (omega arith)
+
+pub bounds-out-at-5 : goal.bounds-out-at-5
+bounds-out-at-5 c = simp length-set (omega arith)
+
+pub bounds-out-at-6 : goal.bounds-out-at-6
+bounds-out-at-6 c = simp length-set (omega arith)
+
+pub returns : goal.returns
+unfolding octets
+returns c = record { is = simp towards_suc }
