@@ -1,10 +1,3 @@
-pub mod ArrayField
 pub mod Copied
-pub mod Guards
-pub mod LocalArray
-pub mod Shared
 pub mod LentLaws
-pub mod LentCode
-pub mod LentContracts
-pub mod LentWalk
 pub mod LinkLists

@@ -6,7 +6,7 @@ use mathlib.Core.Bool.{Bool, true, false, not, ◌&&◌, ◌||◌}
 use mathlib.Core.List.{List}
 use lib.Dec.{eqb, leb, ltb}
 use lib.ListN.{get_or}
-use borrow.Author.Tests.{eqb-true, not_true, not-false}
+use borrow.Author.Tests.{eqb-true, not-true, not-false}
 use Rattle.octets.proofs.Branch.{and_left, and_right, by_bool, pick_both}
 use Rattle.octets.specs.Pick.{pick}
 use Rattle.peer.proofs.Fits.{both, or_left, wrong}
@@ -32,7 +32,7 @@ use Rattle.table.specs.declared.rules.event.Event.TheVariants as event
 use Rattle.table.specs.declared.rules.seat.Found.{Found}
 use Rattle.table.specs.declared.rules.seat.Found.TheVariants.{At, Nothing}
 use Rattle.table.proofs.Joining.AskedTurns.{ask_asks, awaiting_two}
-use Rattle.table.proofs.Joining.Lines.{Turned, gone, or_none}
+use Rattle.table.proofs.Joining.Lines.{Turned, or_none}
 use Rattle.table.proofs.Joining.Records.{Stands, Still, device_fits, found_inside, over, own_record, turn_moves}
 use Rattle.table.proofs.Joining.Steps.{Law, Steps, law_moves, law_still, steps_of}
 use Rattle.table.proofs.Order.OwnRecord.{ask_alone}
@@ -157,7 +157,7 @@ module _ (s : Settings) (t : List Record) (w : Well s t) (q a c : ℕ) (d : ℕ)
       go Nothing f e = wrong e
       go (At i) f e =
           let p = get_or t i free_of in
-          awaiting_two p.exchange s.role p.state p.left (device_fits s t w d i some f).suits (not_true _ (and_left (not (eqb (awaiting_of p.exchange) 0)) _ e))
+          awaiting_two p.exchange s.role p.state p.left (device_fits s t w d i some f).suits (not-true _ (and_left (not (eqb (awaiting_of p.exchange) 0)) _ e))
 
   pub ask_steps : (xs : List ℕ) (n : ℕ) → Well s (asked_of s t q a c n).table → Steps s d (record { table = t; event = event.Ask q a c; octets = xs; room = n })
   unfolding counts stepped_of asked_of

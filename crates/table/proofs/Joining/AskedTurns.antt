@@ -5,7 +5,7 @@ use mathlib.Core.Path.{◌≡◌, refl, sym, ◌∙◌}
 use mathlib.Core.Bool.{Bool, true, false, not, ◌&&◌, ◌||◌}
 use native.Mathlib.Omega.{arith}
 use lib.Dec.{eqb, leb, ltb}
-use borrow.Author.Tests.{eq-eqb, eqb-true, ltb-true, ltb-false, le-leb, lt-leb, leb-true, eqb-false, not_true, not-false}
+use borrow.Author.Tests.{eq-eqb, eqb-true, ltb-true, ltb-false, le-leb, lt-leb, leb-true, eqb-false, not-true, not-false}
 use Rattle.octets.proofs.Branch.{and_right, by_bool, pick_both, pick_by}
 use Rattle.octets.specs.Pick.{pick}
 use Rattle.octets.specs.declared.heard.Kind.{Kind}
@@ -13,7 +13,7 @@ use Rattle.octets.specs.declared.heard.Kind.TheVariants as kind
 use Rattle.peer.proofs.Fits.{Fits, and_none, asked_stands, both, wrong}
 use Rattle.peer.specs.Ask.{answer_of, ask_of, associate_of, awaited_of, deauthenticate_of, declined_move, declined_of, disassociate_of, failed_of, reassociate_of, report_of, reported_move, respond_of, secure_of, started_of}
 use Rattle.peer.specs.Challenge.{inquired_of}
-use Rattle.peer.specs.Fit.{asked_fits, awaiting_fits, exchange_fits, stands}
+use Rattle.peer.specs.Fit.{asked_fits, awaiting_fits, exchange_fits}
 use Rattle.peer.specs.Moves.{moved_of}
 use Rattle.peer.specs.Record.{asked_of, awaiting_of, changed_of, is_asked, is_associating, queried_of}
 use Rattle.peer.specs.Refuse.{mismatch_of}
@@ -52,7 +52,7 @@ edition_two s fit n =
     let g = both (leb s.protection 1) _ e.1 in
     let h = both (not (eqb s.edition 0)) _ g.1 in
     let i = both (leb s.edition 2) _ h.1 in
-    eq-eqb s.edition 2 (omega (arith, eqb-false s.edition 1 n, eqb-false s.edition 0 (not_true _ h.0), leb-true s.edition 2 i.0))
+    eq-eqb s.edition 2 (omega (arith, eqb-false s.edition 1 n, eqb-false s.edition 0 (not-true _ h.0), leb-true s.edition 2 i.0))
 
 -- what stays over each line that it was over: a rejection in edition 2, and the keys
 lowered : (n rsna state : ℕ) → n ≤ 3 → leb n (moved_of rsna state move.Lower) ≡ leb n state

@@ -1,6 +1,6 @@
 -- What a clock step makes of one record, for K9: over the lines of State 2 and State 3.
 -- Assumes nothing.
-use Prim.Native.Nat.{ℕ, ◌-◌, ◌≤◌}
+use Prim.Native.Nat.{ℕ, ◌≤◌}
 use mathlib.Core.Path.{◌≡◌, refl, sym, ◌∙◌}
 use mathlib.Core.Bool.{true, false, not, ◌&&◌}
 use native.Mathlib.Omega.{arith}
@@ -10,7 +10,7 @@ use Rattle.octets.proofs.Branch.{by_bool, pick_by}
 use Rattle.octets.specs.Links.{no_links}
 use Rattle.octets.specs.declared.heard.Kind.TheVariants as kind
 use Rattle.peer.proofs.Fits.{Fits, both, clash, wrong}
-use Rattle.peer.specs.Fit.{asked_fits, awaiting_fits, exchange_fits, sent_fits, stands}
+use Rattle.peer.specs.Fit.{asked_fits, awaiting_fits, exchange_fits, sent_fits}
 use Rattle.peer.specs.Record.{associates, changed_of, is_associating, queried_of, under_way}
 use Rattle.peer.specs.Settings.{role_answers, role_asks, time_fits}
 use Rattle.peer.specs.Tick.{expired_move, freed_of, queried_timed, tick_of, timed_of}

@@ -1,6 +1,6 @@
 -- What a call at the boundary to C promises, case by case: no room for the answer, and the call over octets with its answer written.
 -- Assumes nothing.
-use mathlib.Core.Path.{◌≡◌, refl}
+use mathlib.Core.Path.{◌≡◌}
 use mathlib.Core.List.{List}
 use Prim.Native.Nat.{ℕ, ◌<◌, ◌≤◌}
 use lib.ListN.{length}

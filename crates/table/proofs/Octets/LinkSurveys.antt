@@ -1,17 +1,15 @@
 -- Whether any place of a table's octets has links, four places at a time from the last to the first.
 -- Assumes nothing.
-use mathlib.Core.Path.{◌≡◌, refl, ap, sym, ◌∙◌}
+use mathlib.Core.Path.{◌≡◌, refl, sym, ◌∙◌}
 use mathlib.Core.Bool.{Bool, true, false, not, ◌&&◌, ◌||◌}
 use mathlib.Core.List.{List, [], ◌∷◌}
 use Prim.Native.Nat.{ℕ, zero, suc, ◌+◌, ◌*◌, ◌≤◌, ◌<◌}
 use native.Mathlib.Omega.{arith}
 use lib.Dec.{leb}
-use lib.ListN.{length, drop, get_or}
+use lib.ListN.{length, drop}
 use Rattle.octets.proofs.Branch.{and_left, and_right, by_bool}
-use Rattle.octets.specs.Links.{no_links}
-use Rattle.octets.specs.Row.{blank_at, empty_at, linkless_at, row_at}
+use Rattle.octets.specs.Row.{blank_at, empty_at, linkless_at}
 use Rattle.peer.specs.Record.{free_of}
-use Rattle.peer.specs.declared.record.Record.{Record}
 use Rattle.table.specs.Places.{some_of}
 use Rattle.table.specs.Rows.{linked_in, record_of, records_of}
 use Rattle.table.proofs.Octets.LinkStandings.{linkless_links}

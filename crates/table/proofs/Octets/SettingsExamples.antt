@@ -56,5 +56,5 @@ unfolding settings_in settings_length edition_in retry_in maximum_in valid_of gr
     time_fits is_joined associates fresh_of is_free changed_of query_in queried_of stands asked_fits awaiting_fits sent_fits hold_fits record_fits highest_state query_allowed query_stands running_fits place_fits links_fit
     links_stand slot_fits ds_of network_address send_of request_to turn_of begun_of still_of sole_of towards_of code_allowed role_allowed join_conflict conflict_of joined_elsewhere mismatch_of held_of started_of associate_of
     ask_of spoken_at first_from all_tails count_of some_of alone_in crowd_of sparse_of well_formed associated_of others_of settled_of refused_of stepped_of seated_of starts_of stranger_of newcomer_of first_of unless may_ask
-    no_place asked_at asked_of no_links link_addresses_of find_link_of seek_of
+    no_place asked_at asked_of no_links link_addresses_of find_link_of seek_of table_of
 times_in_order = record { authenticates = refl; associates_after = refl }

@@ -9,7 +9,7 @@ use native.Mathlib.Nat.{zero-add}
 use native.Mathlib.Omega.{arith}
 use lib.Dec.{eqb, leb}
 use lib.ListN.{length, drop, get_or, set}
-use borrow.Author.Tests.{eqb-true, eqb-false, not_true}
+use borrow.Author.Tests.{eqb-true, eqb-false, not-true}
 use Rattle.octets.specs.Address.{valid_of}
 use Rattle.octets.specs.Links.{no_links}
 use Rattle.octets.specs.Pick.{pick}
@@ -122,7 +122,7 @@ module _ (s : Settings) (xs : List ℕ) (marks : List Bool) (associated joined a
 
       not_zero : eqb r.address 0 ≡ false
       unfolding valid_of record_of linked_of
-      not_zero = not_true (eqb r.address 0) (both (not (eqb r.address 0)) _ clauses.valid).0
+      not_zero = not-true (eqb r.address 0) (both (not (eqb r.address 0)) _ clauses.valid).0
 
       module _ (m : ℕ) (em : m ≡ mark_of r.address) where
         pub same_address : (not (get_or marks m false) || all_of (apart r.address) (drop (i - 1 + 1) (addresses_of (records_of xs)))) ≡ false → false ≡ (numbered_at 32 0 xs && well_formed s (records_of xs))

@@ -1,19 +1,18 @@
 -- What the calls that say why promise over octets, case by case: each refusal before a rule is looked at, and a table that is well formed.
 -- Assumes nothing.
 use mathlib.Core.Path.{◌≡◌, refl}
-use mathlib.Core.Bool.{Bool, true, false, ◌&&◌}
+use mathlib.Core.Bool.{true, false, ◌&&◌}
 use mathlib.Core.List.{List}
 use Prim.Native.Nat.{ℕ, ◌<◌, ◌≤◌}
-use lib.ListN.{length}
-use borrow.Author.Tests.{eq-eqb, le-ltb, lt-ltb}
-use Rattle.octets.proofs.Branch.{and_left, and_right, by_bool, pick_both}
+use borrow.Author.Tests.{le-ltb, lt-ltb}
+use Rattle.octets.proofs.Branch.{by_bool, pick_both}
 use Rattle.octets.specs.Answer.{value_written}
 use Rattle.peer.specs.declared.settings.Settings.{Settings}
 use Rattle.table.specs.Boundary.{settings_in}
 use Rattle.table.specs.Fit.{well_formed}
 use Rattle.table.specs.Lent.{room_of}
 use Rattle.table.specs.Places.{addresses_of}
-use Rattle.table.specs.Rows.{is_table, numbered_at, records_of}
+use Rattle.table.specs.Rows.{is_table, records_of}
 use Rattle.table.specs.Why.{host_why, plain, reason_number, why_at, why_crossed, why_crossed_of, why_of}
 use Rattle.table.specs.declared.rules.event.Event.{Event}
 use Rattle.table.specs.declared.rules.why.Reason.TheVariants.{Refusal}

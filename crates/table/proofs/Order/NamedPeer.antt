@@ -12,7 +12,7 @@ use lib.ListN.{length, get_or}
 use Rattle.octets.proofs.Branch.{and_right, pick_both}
 use Rattle.octets.specs.Pick.{pick}
 use Rattle.octets.specs.Address.{group_of, valid_of}
-use Rattle.octets.specs.Class.{class_in, classless}
+use Rattle.octets.specs.Class.{classless}
 use Rattle.octets.specs.Element.{broken_of}
 use Rattle.octets.specs.Field.{field}
 use Rattle.octets.specs.Heard.{heard_of}

@@ -10,7 +10,7 @@ use mathlib.Core.Bool.{Bool, true, false, not, ◌&&◌, ◌||◌}
 use mathlib.Core.List.{List, [], ◌∷◌}
 use lib.Dec.{eqb, ltb}
 use lib.ListN.{length, get_or, length-map, get_or-map}
-use borrow.Author.Tests.{eqb-true, eqb-false, eq-eqb, not-false, not_true}
+use borrow.Author.Tests.{eqb-true, eqb-false, eq-eqb, not-false, not-true}
 use Rattle.octets.proofs.Branch.{and_left, and_right, by_bool, pick_both, pick_by}
 use Rattle.peer.proofs.Classes.{Classed, passes_classed}
 use Rattle.peer.proofs.Fits.{clash, fits_of, sent_asks}
@@ -68,7 +68,7 @@ find_from (x ∷ xs) n (suc i) a t h e z =
         let w : x ≡ a = eqb-true x a q in
         let y : eqb x 0 ≡ false = rw w z in
         let l : all_of (apart x) xs ≡ true = rw y at (and_left (eqb x 0 || all_of (apart x) xs) (distinct_of xs) t) in
-        let f : eqb a x ≡ false = not_true (eqb a x) (rw e at (all_at (apart x) xs i 0 l (le_of_suc-le-suc h))) in
+        let f : eqb a x ≡ false = not-true (eqb a x) (rw e at (all_at (apart x) xs i 0 l (le_of_suc-le-suc h))) in
         absurd (eqb-false a x f (sym w))
 
 pub find_at : (t : List Record) (i : ℕ) → distinct_of (addresses_of t) ≡ true → i < length t → eqb (get_or t i free_of).address 0 ≡ false → find_of (addresses_of t) (get_or t i free_of).address ≡ At i

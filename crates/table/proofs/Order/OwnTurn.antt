@@ -90,7 +90,7 @@ module _ (s : Settings) where
   gets_of i p (primitive q a c) out =
       pick (eqb (refusal i p q a c) 0) (turned (asked i p q c) out) (settles (refusal_answer (refusal i p q a c)) out)
 
-  -- (freeOf stands for the record that is not looked at)
+  -- (free_of stands for the record that is not looked at)
   abbrev alone_of : List Record → Coming → List ℕ → Gets
   alone_of t (frame xs) out = heard_gets free_of (read_of s.own (role_associates s.role) xs) out
   alone_of t (primitive q a c) out = settles (refusal_answer (pick (may_ask s q a c && not (is_found (find_link_of t a))) 5 3)) out

@@ -7,7 +7,7 @@ use mathlib.Core.List.{List, [], ◌∷◌, ◌++◌}
 use native.Mathlib.Omega.{arith}
 use lib.Dec.{eqb}
 use lib.ListN.{get_or, length, set}
-use borrow.Author.Tests.{eqb-true, not-false, not_true}
+use borrow.Author.Tests.{eqb-true, not-false, not-true}
 use Rattle.octets.proofs.Branch.{by_bool}
 use Rattle.octets.specs.Links.{links_of}
 use Rattle.peer.proofs.Fits.{both, clash, wrong}
@@ -51,7 +51,7 @@ module _ {A : Type 0} where
   first_only f d (p ∷ ps) n zero z e h = rw e (ap At (omega arith))
   first_only f d (p ∷ ps) n (suc i) z e h =
       let k = both (not (f p)) _ h in
-      rw (not_true (f p) k.0) (first_only f d ps (n + 1) i z e k.1 ∙ ap At (omega arith))
+      rw (not-true (f p) k.0) (first_only f d ps (n + 1) i z e k.1 ∙ ap At (omega arith))
 
 -- ---- the two halves of `links_apart`
 
@@ -120,7 +120,7 @@ module _ (a : ℕ) (z : eqb a 0 ≡ false) where
       join {a = not (has_link a p)} (by_bool (has_link a p)
       (λ e.
       let none = none_have ps (behind a z (links_of p.links) (link_addresses_of ps) d e) in
-      clash h (not_true _ (all_get (λ (q : Record). not (has_link a q)) ps i free_of none (rw (free_without a z)))))
+      clash h (not-true _ (all_get (λ (q : Record). not (has_link a q)) ps i free_of none (rw (free_without a z)))))
       (λ e. rw e))
       (only_here ps i (distinct_right (links_of p.links) (link_addresses_of ps) d) h)
 
@@ -163,7 +163,7 @@ link_nowhere t a z e = first_none (has_link a) t 0 (rw z at e)
 pub apart_links : (a : ℕ) (t : List Record) → all_of (λ p. not (has_link a p)) t ≡ true → all_of (apart a) (link_addresses_of t) ≡ true
 apart_links a t h =
     all_links (apart a) t
-    ∙ all_weak (λ (p : Record). not (has_link a p)) (λ p. all_of (apart a) (links_of p.links)) (λ p e. not-false _ (sym (without a p) ∙ not_true _ e)) t h
+    ∙ all_weak (λ (p : Record). not (has_link a p)) (λ p. all_of (apart a) (links_of p.links)) (λ p e. not-false _ (sym (without a p) ∙ not-true _ e)) t h
 
 pub no_link : (t : List Record) (a : ℕ) → eqb a 0 ≡ false → find_link_of t a ≡ Nothing → all_of (apart a) (link_addresses_of t) ≡ true
 no_link t a z e = apart_links a t (link_nowhere t a z e)

@@ -1,13 +1,13 @@
 -- What a record stored, an address stored and a map leave of links that are apart (LinkLaws.antt).
 -- Assumes nothing.
-use Prim.Native.Nat.{ℕ, zero, suc, ◌+◌, ◌-◌, ◌*◌}
+use Prim.Native.Nat.{ℕ, zero, suc, ◌+◌, ◌*◌}
 use mathlib.Core.Path.{◌≡◌, refl, sym, ap, ◌∙◌}
 use mathlib.Core.Bool.{Bool, true, false}
 use mathlib.Core.List.{List, [], ◌∷◌, map}
 use native.Mathlib.Omega.{arith}
 use lib.Dec.{eqb}
 use lib.ListN.{get_or, set}
-use borrow.Author.Tests.{eqb-true, not_true}
+use borrow.Author.Tests.{eqb-true, not-true}
 use Rattle.octets.proofs.Branch.{by_bool}
 use Rattle.octets.specs.Links.{links_of}
 use Rattle.octets.specs.declared.links.Links.{Links}
@@ -46,7 +46,7 @@ zero_lone (l ∷ ls) = by_bool (eqb l 0) (λ z. rw z (zero_lone ls)) (λ z. rw (
 
 pub apart_lone : (a : ℕ) (ls : List ℕ) → all_of (apart a) ls ≡ true → all_of (λ l. alone_in l (a ∷ [])) ls ≡ true
 unfolding all_tails alone_in
-apart_lone a ls h = all_weak (apart a) (λ l. alone_in l (a ∷ [])) (λ l e. or_right (eqb l 0) _ (rw (swap l a (not_true _ e)))) ls h
+apart_lone a ls h = all_weak (apart a) (λ l. alone_in l (a ∷ [])) (λ l e. or_right (eqb l 0) _ (rw (swap l a (not-true _ e)))) ls h
 
 -- ---- a record stored: with the same links, and with others
 
@@ -87,7 +87,7 @@ lone_turned x y q = by_bool (eqb y 0)
     (λ z. rw z)
     (λ z. by_bool (eqb x 0)
     (λ w. rw (z, eqb-true x 0 w, swap y 0 z))
-    (λ w. rw (z, swap y x (not_true _ (both (apart x y) _ (rw w at q)).0))))
+    (λ w. rw (z, swap y x (not-true _ (both (apart x y) _ (rw w at q)).0))))
 
 slots_distinct :
     (ls : List ℕ) (k : ℕ) (n : Links) → distinct_of ls ≡ true → distinct_of (links_of n) ≡ true → all_of (λ l. alone_in l ls) (links_of n) ≡ true

@@ -7,7 +7,7 @@ use mathlib.Core.List.{List, [], ◌∷◌, map}
 use native.Mathlib.Omega.{arith}
 use lib.Dec.{eqb}
 use lib.ListN.{get_or, set}
-use borrow.Author.Tests.{eqb-true, eqb-false, ne_eqb, not_true}
+use borrow.Author.Tests.{eqb-true, eqb-false, ne_eqb, not-true}
 use Rattle.octets.proofs.Branch.{by_bool}
 use Rattle.octets.specs.Pick.{pick}
 use Rattle.peer.proofs.Fits.{both, or_right}
@@ -125,7 +125,7 @@ alone_apart : (a b : ℕ) (bs : List ℕ) → eqb b 0 ≡ false → alone_in a (
 unfolding all_tails alone_in
 alone_apart a b bs e k = by_bool (eqb a 0)
     (λ z. rw (eqb-true a 0 z, swap b 0 e))
-    (λ z. rw (swap b a (not_true _ (both (apart a b) _ (rw z at k)).0)))
+    (λ z. rw (swap b a (not-true _ (both (apart a b) _ (rw z at k)).0)))
 
 -- an address that is 0 or nowhere may be stored anywhere
 pub distinct_set : (ads : List ℕ) (i a : ℕ) → distinct_of ads ≡ true → alone_in a ads ≡ true → distinct_of (set ads i a) ≡ true

@@ -17,7 +17,7 @@ use Rattle.peer.specs.Ask.{ask_of, declined_move, declined_of, respond_of}
 use Rattle.peer.specs.Fit.{asked_fits, highest_state, hold_fits, links_fit, place_fits, query_allowed, record_fits, stands}
 use Rattle.peer.specs.Moves.{ds_none}
 use Rattle.peer.specs.Record.{changed_of, free_of, fresh_of, is_free, is_joined, spoken_at}
-use Rattle.peer.specs.Refuse.{code_allowed, conflict_of, held_of, mismatch_of, one, role_allowed}
+use Rattle.peer.specs.Refuse.{code_allowed, conflict_of, held_of, mismatch_of, role_allowed}
 use Rattle.peer.specs.Settings.{network_fits, query_times_fit, role_answers, role_asks, role_associates, settings_fit, time_fits}
 use Rattle.peer.specs.Turn.{ended_of, towards_of, turn_of}
 use Rattle.peer.proofs.Editions.{declines, rejects, second_joined, second_protected, second_silent}

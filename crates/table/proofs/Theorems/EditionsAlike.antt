@@ -9,7 +9,7 @@ use mathlib.Core.Bool.{Bool, true, false}
 use mathlib.Core.List.{List, [], ◌∷◌, map}
 use lib.Dec.{eqb}
 use lib.ListN.{length}
-use borrow.Author.Tests.{eqb-true, not_true}
+use borrow.Author.Tests.{eqb-true, not-true}
 use Rattle.octets.proofs.Branch.{by_bool}
 use Rattle.octets.specs.Sort.{class_by}
 use Rattle.octets.specs.declared.sort.Sort.{Sort}
@@ -61,7 +61,7 @@ edition_asked s t (event.Clock d) xs = false
 -- who asks is no AP
 no_ap : (role : ℕ) → role_asks role ≡ true → eqb role ap ≡ false
 unfolding role_asks
-no_ap role asks = not_true (eqb role ap) asks
+no_ap role asks = not-true (eqb role ap) asks
 
 -- "primitive not for this role", 5, and the first that applies
 not_for_askers : (role q c : ℕ) → role_asks role ≡ true → rejects q c ≡ true → role_allowed q role ≡ false

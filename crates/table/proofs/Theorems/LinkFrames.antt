@@ -7,7 +7,7 @@ use mathlib.Core.Bool.{Bool, true, false, not, ◌&&◌, ◌||◌}
 use mathlib.Core.List.{List, [], ◌∷◌}
 use lib.Dec.{eqb, ltb}
 use lib.ListN.{get_or, length}
-use borrow.Author.Tests.{eqb-true, not_true}
+use borrow.Author.Tests.{eqb-true, not-true}
 use Rattle.octets.proofs.Branch.{by_bool}
 use Rattle.octets.proofs.LinkTrip.{unlinked_of}
 use Rattle.octets.specs.Address.{valid_of}
@@ -173,7 +173,7 @@ module _ (s : Settings) (p : Record) (f : Fits s p) (a : ℕ) (z : eqb a 0 ≡ f
       unfit k.0 k.1)
     where
       unfit : not (eqb a s.own) ≡ true → valid_of a ≡ true → Fit s.own a
-      unfit o v = rw (not_true (eqb a s.own) o, v)
+      unfit o v = rw (not-true (eqb a s.own) o, v)
 
 -- ---- the law
 

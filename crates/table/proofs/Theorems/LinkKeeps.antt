@@ -7,7 +7,7 @@ use mathlib.Core.List.{List, [], ◌∷◌}
 use native.Mathlib.Omega.{arith}
 use lib.Dec.{eqb, leb}
 use lib.ListN.{length, drop, get_or, set, take, drop_of_length-le}
-use borrow.Author.Tests.{eqb-true, leb-true, not-false, not_true}
+use borrow.Author.Tests.{eqb-true, leb-true, not-false, not-true}
 use Rattle.octets.proofs.Branch.{by_bool}
 use Rattle.octets.specs.Address.{valid_of}
 use Rattle.octets.specs.Field.{field}
@@ -129,7 +129,7 @@ module _ (s : Settings) (t : List Record) (w : Well s t) (xs : List ℕ) where
         counts = a.0;
         valid = b.0;
         own = c.0;
-        alone = unfound (find_link_of t device) (not_true _ d.0);
+        alone = unfound (find_link_of t device) (not-true _ d.0);
         distinct = e.0;
         given = e.1;
       }
@@ -149,7 +149,7 @@ module _ (s : Settings) (t : List Record) (w : Well s t) (xs : List ℕ) where
 
     unused : (l : ℕ) → allowed at l ≡ true → (valid_of l ≡ true) × (used_elsewhere at (find_of ads l) (find_link_of t l) ≡ false)
     unfolding link_allowed
-    unused l e = let v = both (valid_of l) _ e in (v.0, not_true _ (both (not (eqb l s.own)) _ v.1).1)
+    unused l e = let v = both (valid_of l) _ e in (v.0, not-true _ (both (not (eqb l s.own)) _ v.1).1)
 
     -- no device has it ..
     named : all_of (λ l. alone_in l ads) (links_of ls) ≡ true

@@ -8,12 +8,12 @@ use Prim.Native.Nat.{ℕ, zero, suc, ◌<◌}
 use native.Mathlib.Decide.{ℕ_discrete}
 use native.Mathlib.Omega.{arith}
 use mathlib.Core.Path.{◌≡◌, refl, ap, sym, ◌∙◌}
-use mathlib.Core.Bool.{Bool, true, false, not, ◌||◌}
+use mathlib.Core.Bool.{Bool, true, false, ◌||◌}
 use mathlib.Core.List.{List, [], ◌∷◌}
 use lib.Dec.{eqb, ltb}
 use lib.ListN.{length, get_or, set, length-map}
 use lib.Seq.{get_or-set_other, get_or-set_same}
-use borrow.Author.Tests.{eq-eqb, eqb-true, eqb-false, not_true}
+use borrow.Author.Tests.{eq-eqb, eqb-true, eqb-false, not-true}
 use Rattle.octets.proofs.Branch.{by_bool, pick_both}
 use Rattle.octets.proofs.Lengths.{bytes_length}
 use Rattle.octets.specs.Frame.{length_of, longest}
@@ -97,7 +97,7 @@ module _ (s : Settings) (t : List Record) (w : well_formed s t ≡ true) (a : �
       let alone : all_of (apart a) (addresses_of t) ≡ true = rw z at (some_holds f a (links_of (get_or t j free_of).links) h mine) in
       let same = eqb-true (get_or t i free_of).address a e in
       let other = all_at (apart a) (addresses_of t) i 0 alone (rw (length-map t address_of) (named_inside t i a z same)) in
-      clash e (not_true _ (rw (get_map address_of t i free_of) at other))
+      clash e (not-true _ (rw (get_map address_of t i free_of) at other))
 
   -- In a well-formed table no address leads to two records.
   pub one_record : (i j : ℕ) → leads (get_or t i free_of) a ≡ true → leads (get_or t j free_of) a ≡ true → i ≡ j

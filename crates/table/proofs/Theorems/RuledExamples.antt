@@ -1,7 +1,6 @@
 -- The rules alone beside the step: an access point with an empty table meets what `ruled_is_step` and `ruled_lent_is_step` ask, so a clock step is
 -- the same by both; and it has to be asked, for settings that do not fit the step refuses and the rules play.
 -- Assumes nothing.
-use Prim.Native.Nat.{ℕ}
 use mathlib.Core.Path.{◌≡◌, refl}
 use mathlib.Core.Bool.{true}
 use mathlib.Core.List.{List, []}

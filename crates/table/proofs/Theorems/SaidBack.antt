@@ -9,7 +9,7 @@ use mathlib.Core.List.{List, [], ◌∷◌}
 use native.Mathlib.Omega.{arith}
 use lib.Dec.{eqb, ltb}
 use lib.ListN.{length, get_or, take}
-use borrow.Author.Tests.{eqb-true, ltb-true, not-false, not_true}
+use borrow.Author.Tests.{eqb-true, ltb-true, not-false, not-true}
 use Rattle.octets.proofs.Branch.{by_bool, pick_both, pick_by}
 use Rattle.octets.specs.Address.{valid_of, group_of}
 use Rattle.octets.specs.Class.{class_in, classless, class_of, number_of}
@@ -127,7 +127,7 @@ module _ (s : Settings) where
       unfolding newcomer_of stranger_of seated_of starts_of fresh_of towards_of no_links
       stranger_said a free f =
           pick_by (Said a (replied_says s 1 query.None (number_of (class_in on xs)) (heard_of xs))) (starts_of (turn a (fresh_of a)))
-          (λ b. placed free (not_true _ (begun b)))
+          (λ b. placed free (not-true _ (begun b)))
           (λ b. here)
         where
           low : a < 2 ^ 48

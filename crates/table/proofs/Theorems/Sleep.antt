@@ -9,7 +9,7 @@ use native.Mathlib.Nat.{add-zero, mul-div_right}
 use native.Mathlib.Omega.{arith}
 use lib.Dec.{eqb}
 use lib.ListN.{drop, length, take, take-append-drop}
-use borrow.Author.Tests.{eqb-false, eqb-true, le-ltb, leb-true, not_true}
+use borrow.Author.Tests.{eqb-false, eqb-true, le-ltb, leb-true, not-true}
 use Rattle.octets.proofs.Branch.{by_bool}
 use Rattle.peer.proofs.Fits.{both}
 use Rattle.peer.specs.Fit.{place_fits}
@@ -30,7 +30,7 @@ use Rattle.table.proofs.Theorems.WrittenCount.{written_count}
 
 some_time : (l : Lapse) → lapse_fits l ≡ true → eqb l.tu 0 ≡ false
 unfolding lapse_fits time_fits
-some_time l f = not_true (eqb l.tu 0) (both (not (eqb l.tu 0)) _ (both (time_fits l.tu) _ f).0).0
+some_time l f = not-true (eqb l.tu 0) (both (not (eqb l.tu 0)) _ (both (time_fits l.tu) _ f).0).0
 
 -- ---- the code's step
 

@@ -8,7 +8,7 @@ use mathlib.Core.List.{List, [], ◌∷◌}
 use native.Mathlib.Omega.{arith}
 use lib.Dec.{ltb, leb, eqb}
 use lib.ListN.{length, length-append}
-use borrow.Author.Tests.{ltb-true, ltb-false, le-leb, lt-leb, not_true, not-false}
+use borrow.Author.Tests.{ltb-true, ltb-false, le-leb, lt-leb, not-true, not-false}
 use Rattle.octets.specs.Pick.{pick}
 use Rattle.octets.proofs.Branch.{and_left, and_right, by_bool}
 use Rattle.peer.proofs.RecordSteps.{place_query, sound}
@@ -54,7 +54,7 @@ report_kind s d p h = by_bool (eqb p.left 0) (λ a. rw (a, place_query s p h)) (
 place_count : (s : Settings) (d n : ℕ) (p : Record) → place_fits s p ≡ true → length (report_for n (tick_of s p d).report p.address) ≡ 8 * pick (reports s d p) 1 0
 place_count s d n p h = by_bool (times_out d p)
     (λ e.
-    let some = not_true (eqb p.left 0) (and_left (not (eqb p.left 0)) _ e) in
+    let some = not-true (eqb p.left 0) (and_left (not (eqb p.left 0)) _ e) in
     rw (report_kind s d p h, e) (report_length n (under_way p.exchange) p.address ((sound s p h).busy some).0))
     (λ e. rw (report_kind s d p h, e) (query_count s d n p.address p.query))
 
@@ -68,7 +68,7 @@ reports_count s d n (p ∷ t) h =
 pass_fits : (s : Settings) (t : List Record) (d n : ℕ) → NoneHolds (pass_refusals s t d n) → all_of (place_fits s) t ≡ true
 unfolding all_tails well_formed
 pass_fits s t d n h =
-    let fit = not-false (well_formed s t) (not_true (not (well_formed s t)) (and_left (not (not (well_formed s t))) _ (and_right (not (ltb n 256)) _ h))) in
+    let fit = not-false (well_formed s t) (not-true (not (well_formed s t)) (and_left (not (not (well_formed s t))) _ (and_right (not (ltb n 256)) _ h))) in
     and_left (all_of (place_fits s) t) _ (and_right (settings_fit s) _ fit)
 
 pub clock_count : (s : Settings) (t : List Record) (d : ℕ) (xs : List ℕ) (n : ℕ) → (step_of s t (event.Clock d) xs n).answer.refusal ≡ 0 → (step_of s t (event.Clock d) xs n).answer.written ≡ 8 * count_of (reports s d) t

@@ -18,7 +18,6 @@ use Rattle.octets.specs.Frame.{longest}
 use Rattle.octets.specs.Heard.{heard_of}
 use Rattle.octets.specs.Shape.{is_bare, least_of, shape_of}
 use Rattle.octets.specs.Sort.{class_by, sort_of}
-use Rattle.octets.specs.declared.frame.Frame.{Frame}
 use Rattle.octets.specs.declared.shape.Shape.{Shape}
 use Rattle.peer.specs.Ask.{ask_of}
 use Rattle.peer.specs.Record.{spoken_at}

@@ -1,7 +1,7 @@
 -- The refusals of a primitive, worded over the table as a whole (specs/Exactly.antt), are those that the rule asks of one record and of what
 -- it knows of the others: in a well-formed table no address leads to two records, and a station has joined one at most.
 -- Assumes nothing.
-use Prim.Native.Nat.{ℕ, ◌-◌, ◌≤◌}
+use Prim.Native.Nat.{ℕ, ◌≤◌}
 use mathlib.Core.Path.{◌≡◌, refl, ap as apply, sym, ◌∙◌}
 use mathlib.Core.Bool.{Bool, true, false, not, ◌&&◌, ◌||◌, or-false, not-not}
 use mathlib.Core.List.{List, ◌∷◌}

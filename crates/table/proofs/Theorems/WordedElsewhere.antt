@@ -6,13 +6,12 @@ use mathlib.Core.Bool.{Bool, true, false, not, ◌&&◌, ◌||◌}
 use mathlib.Core.List.{List, [], ◌∷◌}
 use lib.Dec.{eqb}
 use lib.ListN.{length, drop, get_or, set, take, length-map}
-use borrow.Author.Tests.{eq-eqb, eqb-false, eqb-true, ne_eqb, not-false, not_true}
+use borrow.Author.Tests.{eq-eqb, eqb-false, eqb-true, ne_eqb, not-false, not-true}
 use Rattle.octets.proofs.Branch.{by_bool}
 use Rattle.peer.proofs.Fits.{both, clash}
 use Rattle.peer.specs.Record.{free_of}
 use Rattle.peer.specs.declared.record.Record.{Record}
 use Rattle.peer.specs.declared.settings.Settings.{Settings}
-use Rattle.table.specs.Exactly as exactly
 use Rattle.table.specs.Exactly.{elsewhere, twice}
 use Rattle.table.specs.Fit.{alone_in, apart, distinct_of}
 use Rattle.table.specs.Link.{used_elsewhere}
@@ -57,7 +56,7 @@ module _ {A : Type 0} where
   unfolding some_of all_tails
   some_only f g d [] i z e h = clash e z
   some_only f g d (x ∷ xs) zero z e h =
-      let rest : some_of (λ y. g y && f y) xs ≡ false = some_none (λ y. g y && f y) xs (all_weak (λ y. not (f y)) (λ y. not (g y && f y)) (λ y n. rw (not_true (f y) n) (no_and (g y))) xs (both (not (f d)) _ h).1) in
+      let rest : some_of (λ y. g y && f y) xs ≡ false = some_none (λ y. g y && f y) xs (all_weak (λ y. not (f y)) (λ y. not (g y && f y)) (λ y n. rw (not-true (f y) n) (no_and (g y))) xs (both (not (f d)) _ h).1) in
       rw (e, rest) (trim (g x))
     where
       no_and : (b : Bool) → not (b && false) ≡ true
@@ -69,7 +68,7 @@ module _ {A : Type 0} where
       trim false = refl
   some_only f g d (x ∷ xs) (suc i) z e h =
       let k = both (not (f x)) _ h in
-      rw (not_true (f x) k.0) (skip (some_of (λ y. g y && f y) xs) (g x) ∙ some_only f g d xs i z e k.1)
+      rw (not-true (f x) k.0) (skip (some_of (λ y. g y && f y) xs) (g x) ∙ some_only f g d xs i z e k.1)
     where
       skip : (c b : Bool) → ((b && false) || c) ≡ c
       skip c true = refl
@@ -94,7 +93,7 @@ distinct_twice zero ls g h = zeros_distinct ls h
 distinct_twice (suc n) [] g h = refl
 distinct_twice (suc n) (l ∷ ls) g h =
     let e = both (not (eqb l 0)) _ g in
-    let z = not_true _ e.0 in
+    let z = not-true _ e.0 in
     rw (z, apart_twice l z n ls h, distinct_twice n ls e.1 h) (regroup (some_of (eqb l) (take n ls)) (twice (take n ls)))
   where
     regroup : (a b : Bool) → (not a && not b) ≡ not (a || b)
@@ -115,7 +114,7 @@ module _ (s : Settings) (t : List Record) (w : Facts s t) (device : ℕ) (named 
   -- whether the record at a place is the device's, by where the device is found
   at_device : (j : ℕ) → (i : Found) → find_of ads device ≡ i → j < length t → eqb (get_or t j free_of).address device ≡ on_found i false (λ i. eqb i j)
   at_device j Nothing e h =
-      not_true _ (rw (get_map address_of t j free_of) at (all_at (λ (b : ℕ). not (eqb b device)) ads j 0 (first_none (λ (b : ℕ). eqb b device) ads 0 e) (rw (length-map t address_of) h)))
+      not-true _ (rw (get_map address_of t j free_of) at (all_at (λ (b : ℕ). not (eqb b device)) ads j 0 (first_none (λ (b : ℕ). eqb b device) ads 0 e) (rw (length-map t address_of) h)))
   at_device j (At i) e h = by_bool (eqb (get_or t j free_of).address device)
       (λ q.
       let same = eqb-true _ device q in
@@ -146,7 +145,7 @@ module _ (s : Settings) (t : List Record) (w : Facts s t) (device : ℕ) (named 
       linked : (f : Found) → find_link_of t l ≡ f → some_of (λ p. not (eqb p.address device) && has_link l p) t ≡ on_found f false (λ j. not (on_found (find_of ads device) false (λ i. eqb i j)))
       linked Nothing e =
           some_none (λ (p : Record). not (eqb p.address device) && has_link l p) t
-          (all_weak (λ (p : Record). not (has_link l p)) (λ p. not (not (eqb p.address device) && has_link l p)) (λ p n. rw (not_true (has_link l p) n) (no_and (not (eqb p.address device)))) t (link_nowhere t l z e))
+          (all_weak (λ (p : Record). not (has_link l p)) (λ p. not (not (eqb p.address device) && has_link l p)) (λ p n. rw (not-true (has_link l p) n) (no_and (not (eqb p.address device)))) t (link_nowhere t l z e))
       linked (At j) e =
           let h = link_found t l j e in
           some_only (has_link l) (λ p. not (eqb p.address device)) free_of t j (free_without l z) h.1 (only_here l z t j (apart_both (link_addresses_of t) ads w.apart).0 h.1)

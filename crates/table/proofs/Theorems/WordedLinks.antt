@@ -7,7 +7,7 @@ use mathlib.Core.Bool.{Bool, true, false, not, ◌&&◌, ◌||◌}
 use mathlib.Core.List.{List, [], ◌∷◌}
 use lib.Dec.{eqb, ltb, leb}
 use lib.ListN.{length}
-use borrow.Author.Tests.{le-ltb, leb-false, leb-true, lt-ltb, not-false, not_true}
+use borrow.Author.Tests.{le-ltb, leb-false, leb-true, lt-ltb, not-false, not-true}
 use Rattle.octets.proofs.Branch.{by_bool}
 use Rattle.octets.specs.Address.{valid_of}
 use Rattle.octets.specs.Frame.{longest}
@@ -62,7 +62,7 @@ module _ (s : Settings) (t : List Record) (w : Facts s t) (xs : List ℕ) where
   all_given z [] h = refl
   all_given z (l ∷ ls) h =
       let k = both (apart device l) _ h in
-      rw (given_same z l (not_true _ k.0), all_given z ls k.1) (regroup (unfit_address s l) (elsewhere t device l) (some_of (unfit_address s) ls) (some_of (elsewhere t device) ls))
+      rw (given_same z l (not-true _ k.0), all_given z ls k.1) (regroup (unfit_address s l) (elsewhere t device l) (some_of (unfit_address s) ls) (some_of (elsewhere t device) ls))
     where
       regroup : (a b c d : Bool) → (not (a || b) && not (c || d)) ≡ not ((a || c) || (b || d))
       regroup true b c d = refl
@@ -74,7 +74,7 @@ module _ (s : Settings) (t : List Record) (w : Facts s t) (xs : List ℕ) where
   fit_named : (ls : List ℕ) → some_of (unfit_address s) ls ≡ false → all_of (λ l. not (eqb l 0)) ls ≡ true
   fit_named ls h =
       all_weak (λ (l : ℕ). not (unfit_address s l)) (λ l. not (eqb l 0))
-      (λ l e. rw (valid_named l (not-false _ (or_left (not (valid_of l)) _ (not_true _ e)).0))) ls (none_some (unfit_address s) ls h)
+      (λ l e. rw (valid_named l (not-false _ (or_left (not (valid_of l)) _ (not-true _ e)).0))) ls (none_some (unfit_address s) ls h)
 
   -- where some given link is unfit, not all are allowed
   unfit_barred : (ls : List ℕ) → some_of (unfit_address s) ls ≡ true → all_of allowed ls ≡ false

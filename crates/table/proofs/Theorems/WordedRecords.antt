@@ -3,12 +3,12 @@
 -- Assumes nothing.
 use Prim.Native.Nat.{ℕ, zero, suc, ◌+◌, ◌≤◌}
 use mathlib.Core.Path.{◌≡◌, refl, sym}
-use mathlib.Core.Bool.{Bool, true, false, not, ◌&&◌, ◌||◌, and_false, or-false}
+use mathlib.Core.Bool.{Bool, true, false, not, ◌&&◌, ◌||◌, and-false, or-false}
 use mathlib.Core.List.{List, [], ◌∷◌}
 use native.Mathlib.Omega.{arith}
 use lib.Dec.{eqb, ltb}
 use lib.ListN.{get_or}
-use borrow.Author.Tests.{eqb-true, eqb-false, eq-eqb, lt-ltb, not_true}
+use borrow.Author.Tests.{eqb-true, eqb-false, eq-eqb, lt-ltb, not-true}
 use Rattle.octets.proofs.Branch.{and_left, by_bool}
 use Rattle.octets.specs.Address.{valid_of}
 use Rattle.peer.proofs.Fits.{both, wrong, clash, fits_of}
@@ -28,7 +28,7 @@ unfolding some_of all_tails
 some_none a f [] h = refl
 some_none a f (p ∷ ps) h =
     let b = both (not (eqb p.address a)) _ h in
-    rw (not_true (eqb p.address a) b.0) (some_none a f ps b.1)
+    rw (not-true (eqb p.address a) b.0) (some_none a f ps b.1)
 
 -- in a list without an address twice, the record that has it is the one
 pub some_at :
@@ -72,7 +72,7 @@ unfolding some_of count_of
 other_none a [] h = refl
 other_none a (p ∷ ps) h = by_bool (is_joined p)
     (λ e. let n : 1 + count_of is_joined ps ≡ 0 = rw e at h in absurd (omega arith))
-    (λ e. let n : 0 + count_of is_joined ps ≡ 0 = rw e at h in rw (e, and_false (not (eqb p.address a))) (other_none a ps (omega arith)))
+    (λ e. let n : 0 + count_of is_joined ps ≡ 0 = rw e at h in rw (e, and-false (not (eqb p.address a))) (other_none a ps (omega arith)))
 
 pub other_same :
     (s : Settings) (a : ℕ) (t : List Record) → all_of (place_fits s) t ≡ true → count_of is_joined t ≤ 1
@@ -86,7 +86,7 @@ other_same s a (p ∷ ps) h n = by_bool (is_joined p)
     rw (e, other_none a ps (omega arith), z) (trim (not (eqb p.address a))))
     (λ e.
     let few : 0 + count_of is_joined ps ≤ 1 = rw e at n in
-    rw (e, and_false (not (eqb p.address a))) (other_same s a ps (both (place_fits s p) _ h).1 (omega arith)))
+    rw (e, and-false (not (eqb p.address a))) (other_same s a ps (both (place_fits s p) _ h).1 (omega arith)))
   where
     trim : (b : Bool) → ((b && true) || false) ≡ b
     trim true = refl
@@ -101,7 +101,7 @@ free_zero p e = and_left (eqb p.address 0) _ e
 -- an address that is valid is not 0
 pub valid_named : (a : ℕ) → valid_of a ≡ true → eqb a 0 ≡ false
 unfolding valid_of
-valid_named a v = not_true (eqb a 0) (and_left (not (eqb a 0)) _ v)
+valid_named a v = not-true (eqb a 0) (and_left (not (eqb a 0)) _ v)
 
 pub free_address : (s : Settings) (p : Record) → place_fits s p ≡ true → is_free p ≡ eqb p.address 0
 unfolding place_fits

@@ -10,7 +10,7 @@ use native.Mathlib.Nat.{zero-add}
 use lib.Dec.{ltb, eqb}
 use lib.ListN.{length, drop, length-append, length-drop}
 use lib.Seq.{sets, sets-eq, take-append_seam, drop-append_seam}
-use borrow.Author.Tests.{ltb-false, not_true, eqb-true}
+use borrow.Author.Tests.{ltb-false, not-true, eqb-true}
 use Rattle.octets.specs.Frame.{longest, bytes_of, written_of, length_of}
 use Rattle.octets.proofs.Branch.{and_left, by_bool}
 use Rattle.octets.proofs.Lengths.{bytes_length, body_short}
@@ -74,7 +74,7 @@ linked_silent s t xs n e = rw e
 -- what is not refused has room for the reports of 32 places
 pass_room : (s : Settings) (t : List Record) (d n : ℕ) → NoneHolds (pass_refusals s t d n) → 256 ≤ n
 unfolding all_tails
-pass_room s t d n h = ltb-false n 256 (not_true (ltb n 256) (and_left _ _ h))
+pass_room s t d n h = ltb-false n 256 (not-true (ltb n 256) (and_left _ _ h))
 
 reports_short : (s : Settings) (d n : ℕ) (t : List Record) → length (reports_of s d n t) ≤ 8 * length t
 unfolding reports_of

@@ -1,4 +1,5 @@
-// The boundary to C: the four calls with numbers and slices alone, the same on every processor. `include/peer_table.h` declares them.
+// The boundary to C: the four calls with numbers and slices alone, the same on every processor. Crate `table_c` exports them, and
+// `include/peer_table.h` declares them.
 // Settings in 12, 14, 18 or 24 octets, or refusal 2; at least 24 for the answer, or refusal 1 and nothing is written. The result is the refusal's number.
 ghost use Rattle.std.specs.Prelude.{◌≡◌, []};
 ghost use Rattle.table.specs.Boundary.{answer_in, crossed, crossed_of, settings_in};
@@ -23,8 +24,7 @@ pub(crate) fn told(a: Answer, answer: &mut [u8]) -> u64
 }
 
 // A received frame.
-#[unsafe(no_mangle)]
-pub extern "C" fn peer_receive_octets(
+pub fn peer_receive_octets(
     table: &mut [u8],
     settings: &[u8],
     frame: &[u8],
@@ -41,8 +41,7 @@ pub extern "C" fn peer_receive_octets(
 }
 
 // A primitive from our own side.
-#[unsafe(no_mangle)]
-pub extern "C" fn peer_ask_octets(
+pub fn peer_ask_octets(
     table: &mut [u8],
     settings: &[u8],
     primitive: u8,
@@ -61,8 +60,7 @@ pub extern "C" fn peer_ask_octets(
 }
 
 // The links of a device: its address, their count, and they, six octets each.
-#[unsafe(no_mangle)]
-pub extern "C" fn peer_links_octets(
+pub fn peer_links_octets(
     table: &mut [u8],
     settings: &[u8],
     named: &[u8],
@@ -79,8 +77,7 @@ pub extern "C" fn peer_links_octets(
 }
 
 // A clock step in TU.
-#[unsafe(no_mangle)]
-pub extern "C" fn peer_pass_octets(
+pub fn peer_pass_octets(
     table: &mut [u8],
     settings: &[u8],
     step: u16,
@@ -98,8 +95,7 @@ pub extern "C" fn peer_pass_octets(
 
 // Many events: records of a bench input, one behind the other. 24 octets for each answer; what each event writes stands in `out` behind what the
 // one before wrote. The result is how many were played.
-#[unsafe(no_mangle)]
-pub extern "C" fn peer_run_octets(
+pub fn peer_run_octets(
     table: &mut [u8],
     settings: &[u8],
     records: &[u8],

@@ -9,7 +9,7 @@ use octets::field::{address_at, octet_at, u16_at};
 use peer::settings::Settings;
 
 // What stands at the front of the input.
-#[derive(Drop)]
+#[derive(Clone, Copy)]
 pub enum Taken {
     // A record that is not there whole.
     Cut,

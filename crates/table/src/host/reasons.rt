@@ -1,4 +1,5 @@
-// The boundary to C, why an event came to what it did: four calls with numbers and slices alone, as in boundary.rt. `include/peer_table.h` declares them.
+// The boundary to C, why an event came to what it did: four calls with numbers and slices alone, as in boundary.rt. Crate `table_c` exports them, and
+// `include/peer_table.h` declares them.
 // `room` is the length of the buffer that the event would be lent. The result is the reason's number; its value goes to the first eight octets of
 // `value`, where there are so many. Nothing else is written.
 ghost use Rattle.std.specs.Prelude.{◌≡◌, []};
@@ -22,8 +23,7 @@ fn explained(w: Why, value: &mut [u8]) -> u64
 }
 
 // Of a received frame.
-#[unsafe(no_mangle)]
-pub extern "C" fn peer_why_receive_octets(
+pub fn peer_why_receive_octets(
     table: &[u8],
     settings: &[u8],
     frame: &[u8],
@@ -43,8 +43,7 @@ pub extern "C" fn peer_why_receive_octets(
 }
 
 // Of a primitive from our own side.
-#[unsafe(no_mangle)]
-pub extern "C" fn peer_why_ask_octets(
+pub fn peer_why_ask_octets(
     table: &[u8],
     settings: &[u8],
     primitive: u8,
@@ -65,8 +64,7 @@ pub extern "C" fn peer_why_ask_octets(
 }
 
 // Of links named for a device.
-#[unsafe(no_mangle)]
-pub extern "C" fn peer_why_links_octets(
+pub fn peer_why_links_octets(
     table: &[u8],
     settings: &[u8],
     named: &[u8],
@@ -86,8 +84,7 @@ pub extern "C" fn peer_why_links_octets(
 }
 
 // Of a clock step.
-#[unsafe(no_mangle)]
-pub extern "C" fn peer_why_pass_octets(
+pub fn peer_why_pass_octets(
     table: &[u8],
     settings: &[u8],
     step: u16,

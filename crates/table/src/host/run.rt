@@ -19,14 +19,14 @@ use crate::rules::event::{Event, room};
 use peer::settings::Settings;
 
 // What is known of settings and table: whether they are well formed and, if so, whether any record has links.
-#[derive(Drop)]
+#[derive(Clone, Copy)]
 pub struct Known {
     pub well: bool,
     pub linked: bool,
 }
 
 // What one event of a run takes of the records, and writes; and what is known behind it. No record is taken where its size is 0.
-#[derive(Drop)]
+#[derive(Clone, Copy)]
 struct Passed {
     size: usize,
     written: usize,

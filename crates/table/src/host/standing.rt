@@ -18,7 +18,7 @@ use peer::record::Record;
 use peer::settings::{Settings, answers, asks, associates};
 
 // Whether a row is well formed by itself, and whether it has a (re)association under way.
-#[derive(Drop)]
+#[derive(Clone, Copy)]
 pub struct Standing {
     pub fit: bool,
     pub associating: bool,

@@ -21,7 +21,7 @@ use peer::refuse::Others;
 use peer::settings::Settings;
 
 // What the pass finds. Where all is not well formed, the rest says nothing.
-#[derive(Drop)]
+#[derive(Clone, Copy)]
 pub struct Seen {
     pub well: bool,
     // What a station's primitives ask of the whole table.

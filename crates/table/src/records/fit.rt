@@ -14,7 +14,7 @@ use peer::record::Record;
 use peer::settings::Settings;
 
 // What one pass finds.
-#[derive(Drop)]
+#[derive(Clone, Copy)]
 pub struct View {
     // Whether each place fits by itself.
     pub fit: bool,

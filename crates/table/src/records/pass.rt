@@ -12,7 +12,7 @@ use peer::settings::Settings;
 use peer::tick::tick;
 
 // The table after a clock step, and how many octets of reports were written.
-#[derive(Drop)]
+#[derive(Clone, Copy)]
 pub struct Clocked {
     pub table: [Record; 32],
     pub written: u16,

@@ -8,7 +8,7 @@ use peer::reply::Reply;
 use peer::turn::Turn;
 
 #[repr(C)]
-#[derive(Drop)]
+#[derive(Clone, Copy)]
 pub struct Answer {
     // The current AP of a reassociation's indication, else 0.
     pub current: u64,
@@ -26,14 +26,14 @@ pub struct Answer {
 }
 
 // A table after an event, and the answer.
-#[derive(Drop)]
+#[derive(Clone, Copy)]
 pub struct Stepped {
     pub table: [Record; 32],
     pub answer: Answer,
 }
 
 // The same before the reply is written.
-#[derive(Drop)]
+#[derive(Clone, Copy)]
 pub struct Met {
     pub table: [Record; 32],
     pub answer: Answer,

@@ -5,7 +5,7 @@ ghost use Rattle.table.specs.Ruled.{ticking, tu_of};
 
 use octets::frame::Frame;
 
-#[derive(Drop)]
+#[derive(Clone, Copy)]
 pub enum Event {
     // A frame, whose octets are lent beside the event.
     Frame,

@@ -10,7 +10,7 @@ use peer::refuse::Others;
 use peer::settings::{Settings, answers};
 
 // How many records are in State 3 or 4, and how many (re)associations are under way.
-#[derive(Drop)]
+#[derive(Clone, Copy)]
 pub struct Counts {
     pub joined: usize,
     pub associating: usize,

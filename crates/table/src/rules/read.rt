@@ -15,7 +15,7 @@ use octets::heard::Heard;
 use octets::shape::{Shape, measure};
 use octets::sort::{Sort, sorted};
 
-#[derive(Drop)]
+#[derive(Clone, Copy)]
 pub enum Reading {
     // A refusal number.
     Refused(u8),

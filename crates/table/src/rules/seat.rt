@@ -12,7 +12,7 @@ use peer::record::Record;
 use peer::reply::Reply;
 use peer::turn::Turn;
 
-#[derive(Drop)]
+#[derive(Clone, Copy)]
 pub enum Found {
     At(usize),
     Nothing,
@@ -30,7 +30,7 @@ impl Found {
 }
 
 // What an event makes of a table, and what is said.
-#[derive(Drop)]
+#[derive(Clone, Copy)]
 pub struct Change {
     // Where the record is stored, if it is.
     pub place: Found,

@@ -9,7 +9,7 @@ use peer::idle::{group_barred, idle};
 use peer::record::Record;
 use peer::settings::Settings;
 
-#[derive(Drop)]
+#[derive(Clone, Copy)]
 pub enum Reason {
     // Something was done; of a primitive, links and a clock step: it was not refused.
     None,
@@ -22,7 +22,7 @@ pub enum Reason {
     NothingToDo,
 }
 
-#[derive(Drop)]
+#[derive(Clone, Copy)]
 pub struct Why {
     pub reason: Reason,
     // The frame's length, the peer's state or the hold left, by the reason; else 0.
