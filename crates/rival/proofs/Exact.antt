@@ -2,7 +2,6 @@
 -- Assumes nothing.
 use Prim.Native.Nat.{ℕ, suc, ◌<◌, ◌≤◌}
 use mathlib.Core.Path.{◌≡◌, refl, sym, ap, ◌∙◌}
-use mathlib.Core.Bool.{Bool, true, false}
 use mathlib.Core.List.{List, []}
 use mathlib.Core.Logic.{◌↔◌}
 use native.Mathlib.Omega.{arith}
@@ -11,10 +10,9 @@ use lib.ListN.{length, get_or, take}
 use lib.Seq.{get_or-take, length-take-le, take_all, take-take}
 use borrow.Author.Tests.{le-leb, leb-true, ltb-false, ltb-true}
 use Rattle.octets.proofs.Branch.{by_bool}
-use Rattle.octets.specs.Pick.{pick}
 use Rattle.rival.specs.Alike.{Meeting, alike, longer, met_from, other, shorter}
-use Rattle.rival.specs.Log.{event_of, field_at, field_of, form, lines_of, pieces_of, said_of, say_of, up_to}
-use Rattle.rival.specs.Says.{Differing, Ending, Field, Longer, Parted, Says, piece, whole}
+use Rattle.rival.specs.Log.{field_at, field_of, form, lines_of, pieces_of, said_of, say_of, up_to}
+use Rattle.rival.specs.Says.{Field, Longer, Parted, Says, piece, whole}
 use Rattle.rival.specs.declared.Said.{Said}
 use Rattle.rival.specs.declared.Said.TheVariants.{Right, Differs, Short, Long}
 use Rattle.rival.proofs.Cuts.{join_lines, joined}

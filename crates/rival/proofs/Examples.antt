@@ -3,7 +3,7 @@
 use Prim.Native.Nat.{ℕ}
 use mathlib.Core.Path.{◌≡◌, refl}
 use mathlib.Core.Bool.{true, false}
-use mathlib.Core.List.{List, [], ◌∷◌, ◌++◌}
+use mathlib.Core.List.{List, [], ◌∷◌}
 use Rattle.rival.specs.Alike.{met_from, same}
 use Rattle.rival.specs.Beside.{beside_of, compared_of, field_after, other_field, standing_at_first}
 use Rattle.rival.specs.Log.{field_at, field_of, lines_of, one_more, pieces_of, said_of, say_of, up_to}

@@ -1,15 +1,14 @@
 -- The field in which two lines differ, by the first two octets that do.
 -- Assumes nothing.
-use Prim.Native.Nat.{ℕ, zero, suc, ◌+◌, ◌≤◌}
-use mathlib.Core.Path.{◌≡◌, refl, sym, ap, ◌∙◌}
-use mathlib.Core.Bool.{Bool, true, false}
+use Prim.Native.Nat.{ℕ, suc, ◌+◌, ◌≤◌}
+use mathlib.Core.Path.{◌≡◌, refl, sym, ◌∙◌}
+use mathlib.Core.Bool.{true, false}
 use mathlib.Core.List.{List, [], ◌∷◌, ◌++◌}
 use native.Mathlib.Omega.{arith}
-use lib.Dec.{eqb, leb, ltb}
-use borrow.Author.Tests.{eq-eqb, eqb-true, le-leb, le-ltb, leb-false, leb-true, lt-leb, lt-ltb}
+use lib.Dec.{eqb, leb}
+use borrow.Author.Tests.{eq-eqb, eqb-true, le-leb, le-ltb, leb-false, leb-true, lt-ltb}
 use Rattle.octets.proofs.Branch.{by_bool, pick_both}
-use Rattle.octets.specs.Pick.{pick}
-use Rattle.rival.specs.Alike.{Meeting, alike, longer, met_from, other, same, shorter}
+use Rattle.rival.specs.Alike.{met_from, same}
 use Rattle.rival.specs.Beside.{other_field}
 use Rattle.rival.specs.Log.{field_at, field_of, form, one_more, onto, pieces_of, up_to}
 use Rattle.rival.proofs.Cuts.{blanks_from, plain}
@@ -45,6 +44,8 @@ pieces_some (x ∷ xs) = pick_both Some (eqb x 10) some (pick_both Some (eqb x 3
 -- the same octet before the first piece of both
 field_onto : (k x : ℕ) (p q : List (List ℕ)) → Some p → Some q → field_at (met_from k (onto x p) (onto x q)) ≡ field_at (met_from k p q)
 unfolding met_from field_at same
+field_onto k x [] q s t = elim s [ ]
+field_onto k x (a ∷ p) [] s t = elim t [ ]
 field_onto k x (a ∷ p) (b ∷ q) s t = by_bool (same a b) (λ e. rw (eq-eqb x x refl, e)) (λ e. rw (eq-eqb x x refl, e))
 
 -- the same octets before both
@@ -87,10 +88,12 @@ begins (x ∷ xs) =
 
 missing : (k : ℕ) (p : List (List ℕ)) → Some p → field_at (met_from (suc k) p []) ≡ one_more form (up_to form k)
 unfolding met_from field_at
+missing k [] s = elim s [ ]
 missing k (a ∷ p) s = sym (held_more form k)
 
 more_behind : (k : ℕ) (p : List (List ℕ)) → Some p → field_at (met_from (suc k) [] p) ≡ form
 unfolding met_from field_at
+more_behind k [] s = elim s [ ]
 more_behind k (a ∷ p) s = refl
 
 -- Two octets that differ, or an end of either.

@@ -1,8 +1,8 @@
 -- What is said octet by octet is what is said of whole lines and their pieces.
 -- Assumes nothing.
-use Prim.Native.Nat.{ℕ, zero, suc}
-use mathlib.Core.Path.{◌≡◌, refl, sym, ap, ◌∙◌}
-use mathlib.Core.Bool.{Bool, true, false, ◌&&◌}
+use Prim.Native.Nat.{ℕ, suc}
+use mathlib.Core.Path.{◌≡◌, refl, ap, ◌∙◌}
+use mathlib.Core.Bool.{true, false}
 use mathlib.Core.List.{List, [], ◌∷◌, ◌++◌}
 use native.Mathlib.Omega.{arith}
 use lib.Dec.{eqb}
@@ -10,12 +10,12 @@ use lib.Seq.{append_snoc}
 use borrow.Author.Tests.{eq-eqb, eqb-true}
 use Rattle.octets.proofs.Branch.{by_bool}
 use Rattle.octets.specs.Pick.{pick}
-use Rattle.rival.specs.Alike.{Meeting, alike, longer, met_from, other, same, shorter}
+use Rattle.rival.specs.Alike.{met_from, same}
 use Rattle.rival.specs.Beside.{alone_of, beside_of, field_after, other_field, said_by, standing_at_first}
-use Rattle.rival.specs.Log.{event_of, field_of, form, lines_of, one_more, said_of, say_of, up_to}
-use Rattle.rival.specs.declared.Said.TheVariants.{Right, Differs, Short, Long}
+use Rattle.rival.specs.Log.{event_of, form, lines_of, one_more, said_of, say_of, up_to}
+use Rattle.rival.specs.declared.Said.TheVariants.{Differs, Short, Long}
 use Rattle.rival.specs.declared.Standing.{Standing}
-use Rattle.rival.proofs.Cuts.{blanks_more, blanks_from, cut_at, cut_behind, cut_off, line_of, plain, plain_more, rest_of, some, some_both, some_left, some_more}
+use Rattle.rival.proofs.Cuts.{blanks_more, blanks_from, cut_at, cut_behind, cut_off, line_of, plain, plain_more, some, some_both, some_more}
 use Rattle.rival.proofs.Fields.{field_by, first, held_more}
 use Rattle.rival.proofs.Passing.{said_apart}
 use Rattle.rival.proofs.Meetings.{met_itself, same_append, same_refl}

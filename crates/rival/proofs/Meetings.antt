@@ -1,15 +1,14 @@
 -- How two lists stand to each other, said of the lists, is what `met_from` finds: both ways.
 -- Assumes nothing.
-use Prim.Native.Nat.{ℕ, zero, suc, ◌<◌, ◌≤◌}
+use Prim.Native.Nat.{ℕ, zero, suc}
 use mathlib.Core.Path.{◌≡◌, refl, sym, ap, ◌∙◌}
-use mathlib.Core.Bool.{Bool, true, false, ◌&&◌}
+use mathlib.Core.Bool.{true, false}
 use mathlib.Core.List.{List, [], ◌∷◌, ◌++◌}
 use native.Mathlib.Omega.{arith}
 use lib.Dec.{eqb}
-use lib.ListN.{length, get_or, take}
+use lib.ListN.{get_or, take}
 use borrow.Author.Tests.{eq-eqb, eqb-true}
 use Rattle.octets.proofs.Branch.{and_left, and_right, by_bool}
-use Rattle.octets.specs.Pick.{pick}
 use Rattle.rival.specs.Alike.{Meeting, alike, longer, met_from, other, same, shorter}
 use Rattle.rival.specs.Says.{Longer, Parted}
 

@@ -1,19 +1,17 @@
 -- The loop of `compare`, and how what is said goes on from where it got to.
 -- Assumes nothing.
 use Prim.Native.Nat.{ℕ, zero, suc, ◌+◌, ◌≤◌, ◌<◌}
-use mathlib.Core.Path.{◌≡◌, refl, sym, ap, ◌∙◌}
-use mathlib.Core.Bool.{Bool, true, false}
+use mathlib.Core.Path.{◌≡◌, refl, ◌∙◌}
+use mathlib.Core.Bool.{true, false}
 use mathlib.Core.List.{List, [], ◌∷◌, ◌++◌, append-nil}
 use native.Mathlib.Numerals.{add-one}
 use native.Mathlib.Omega.{arith}
 use lib.ListN.{length, get_or, drop, drop_of_length-le, get_or-eq_default}
 use lib.Seq.{drop-cons}
 use Rattle.octets.proofs.Branch.{by_bool}
-use Rattle.octets.specs.Pick.{pick}
-use Rattle.rival.specs.Beside.{alone_of, and_one, beside_of, compared_of, differs_in, other_field, said_by}
+use Rattle.rival.specs.Beside.{alone_of, beside_of, compared_of, differs_in, other_field, said_by}
 use Rattle.rival.specs.declared.Passed.{Passed}
-use Rattle.rival.specs.declared.Said.{Said}
-use Rattle.rival.specs.declared.Said.TheVariants.{Right, Differs, Short, Long}
+use Rattle.rival.specs.declared.Said.TheVariants.{Right, Short, Long}
 use Rattle.rival.specs.declared.Standing.{Standing}
 
 abbrev pub none : Standing → Passed

@@ -1,12 +1,11 @@
 -- The pieces in which ours and the log come do not matter.
 -- Assumes nothing.
 use Prim.Native.Nat.{ℕ}
-use mathlib.Core.Path.{◌≡◌, refl, sym, ap, ◌∙◌}
+use mathlib.Core.Path.{◌≡◌, refl, sym, ◌∙◌}
 use mathlib.Core.Bool.{Bool, true, false}
 use mathlib.Core.List.{List, [], ◌∷◌, ◌++◌, append_assoc, append-nil}
 use Rattle.octets.proofs.Branch.{by_bool}
-use Rattle.octets.specs.Pick.{pick}
-use Rattle.rival.specs.Beside.{said_by, standing_at_first}
+use Rattle.rival.specs.Beside.{said_by}
 use Rattle.rival.specs.Log.{said_of}
 use Rattle.rival.specs.Pieces.{Went, begun, compared, ends_of, is_none, log_came, ours_came, settled_of}
 use Rattle.rival.specs.declared.Standing.{Standing}

@@ -1,6 +1,6 @@
 -- The comparison octet by octet, of two lists of which more may follow.
 -- Assumes nothing.
-use Rattle.std.specs.Prelude.{ℕ, suc, Bool, true, false, List, [], ◌∷◌, ◌++◌, eqb, drop}
+use Rattle.std.specs.Prelude.{ℕ, suc, true, false, List, [], ◌∷◌, eqb}
 use Rattle.octets.specs.Pick.{pick}
 use Rattle.rival.specs.Log.{form, one_more}
 use Rattle.rival.specs.declared.Passed.{Passed}

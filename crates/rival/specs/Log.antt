@@ -1,9 +1,9 @@
 -- What is said of a log beside our lines. 02, K13: "say whether each line is the one document 01 gives, and if not, the first event that differs and which
 -- field." Written over whole lines and their pieces; the code goes octet by octet, and proofs/Lines.antt proves that it says the same.
 -- Assumes nothing.
-use Rattle.std.specs.Prelude.{ℕ, suc, ◌+◌, ◌<◌, ◌≤◌, Bool, true, false, List, [], ◌∷◌, ◌++◌, ◌≡◌, eqb, leb, ltb, length, get_or, take}
+use Rattle.std.specs.Prelude.{ℕ, suc, ◌+◌, List, [], ◌∷◌, eqb, leb, ltb}
 use Rattle.octets.specs.Pick.{pick}
-use Rattle.rival.specs.Alike.{Meeting, alike, longer, met_from, other, same, shorter}
+use Rattle.rival.specs.Alike.{Meeting, alike, longer, met_from, other, shorter}
 use Rattle.rival.specs.declared.Said.{Said}
 use Rattle.rival.specs.declared.Said.TheVariants.{Right, Differs, Short, Long}
 

@@ -1,4 +1,6 @@
 // Two streams of octets beside each other, our lines and another maker's: how far they are alike, and what is said of the two. 02, K13.
+#![tactic(auto)]
+
 ghost use Rattle.std.specs.Prelude.{◌≡◌, get_or};
 ghost use Rattle.rival.specs.Beside.{alone_of, beside_of, compared_of, field_after, other_field, said_by, standing_at_first};
 ghost use Rattle.rival.specs.Log.{one_more};
@@ -11,7 +13,7 @@ const BLANK: u8 = 32;
 const FORM: u64 = 8;
 
 // Where a comparison stands.
-#[derive(Drop)]
+#[derive(Clone, Copy)]
 pub struct Standing {
     // The lines that both have.
     pub lines: u64,
@@ -23,7 +25,7 @@ pub struct Standing {
 }
 
 // What is said of a log.
-#[derive(Drop)]
+#[derive(Clone, Copy)]
 pub enum Said {
     Right,
     // The event, and the field: 0 to 7, or 8, the form.
@@ -34,7 +36,7 @@ pub enum Said {
 }
 
 // Where a comparison got to, and how many octets of both it took.
-#[derive(Drop)]
+#[derive(Clone, Copy)]
 pub struct Passed {
     pub standing: Standing,
     pub taken: usize,

@@ -9,7 +9,7 @@ use mathlib.Core.List.{List, [], ◌∷◌, ◌++◌, map, append-nil, append_as
 use lib.Dec.{eqb}
 use lib.ListN.{get_or, length, set}
 use Rattle.octets.specs.Pick.{pick}
-use Rattle.sums.specs.Block.{placewise, both_at, join_at, nothing, both_of, single, tally, block_of, empty_of, join_of, added_to, plus_of}
+use Rattle.sums.specs.Block.{placewise, both_at, join_at, nothing, both_of, single, tally, block_of, empty_of, added_to, plus_of}
 use Rattle.sums.specs.Orders.{joined}
 use Rattle.sums.specs.Sums as sums
 use Rattle.sums.specs.Sums.{held}

@@ -1,4 +1,4 @@
--- gcdOf is the greatest common divisor: it divides both, and every common divisor divides it. By induction on the turns; the library's `dvd-mod_iff` is each step.
+-- gcd_of is the greatest common divisor: it divides both, and every common divisor divides it. By induction on the turns; the library's `dvd-mod_iff` is each step.
 -- Assumes nothing.
 use Prim.Native.Nat.{ℕ, zero, suc, ◌%◌, ◌≤◌, ◌<◌, ◌∣◌}
 use native.Mathlib.Nat.{mod-lt, zero-lt-suc, dvd_refl, dvd-zero, dvd-mod_iff, dvd_antisymm, pos_of_dvd_of_pos}

@@ -2,15 +2,14 @@
 -- Assumes nothing.
 use Prim.Native.Nat.{ℕ, ◌^◌, ◌-◌}
 use mathlib.Core.Path.{◌≡◌, refl}
-use mathlib.Core.List.{List, [], ◌∷◌}
-use lib.ListN.{get_or, replicate, set}
-use Rattle.sums.specs.Block.{placewise, both_at, join_at, tally, nothing, block_of, empty_of, join_of, plus_of, mean_of}
+use mathlib.Core.List.{List}
+use lib.ListN.{get_or, set}
+use Rattle.sums.specs.Block.{placewise, join_at, nothing, block_of, empty_of, join_of, mean_of}
 use Rattle.sums.specs.Gcd.{euclid, gcd_of}
 use Rattle.sums.specs.Lowest.{reduced_of}
 use Rattle.sums.specs.Sums as sums
 use Rattle.sums.specs.Sums.{held, add_of, longer_of}
 use Rattle.sums.specs.declared.block.Mean.TheVariants as mean
-use Rattle.sums.specs.declared.total.Total.{Total}
 use Rattle.sums.specs.declared.total.Total.TheVariants.{Sum, Over}
 
 last_that_fits : add_of (Sum (2 ^ 64 - 2)) (Sum 1) ≡ Sum (2 ^ 64 - 1)

@@ -5,10 +5,10 @@ use Prim.Native.Nat.{ℕ, ◌+◌, ◌<◌, max}
 use native.Mathlib.Omega.{arith}
 use mathlib.Core.Path.{◌≡◌, refl, sym, ap, ap₂, ◌∙◌}
 use mathlib.Core.Bool.{Bool, true, false}
-use mathlib.Core.List.{List, [], ◌∷◌, ◌++◌, map, append-nil, append_assoc}
+use mathlib.Core.List.{List, [], ◌∷◌, ◌++◌, append-nil, append_assoc}
 use lib.Dec.{eqb}
 use lib.ListN.{get_or, length, get_or-map}
-use Rattle.sums.specs.Block.{placewise, both_at, join_at, nothing, both_of, tally, block_of, empty_of, join_of}
+use Rattle.sums.specs.Block.{placewise, both_at, join_at, nothing, both_of, tally, block_of, join_of}
 use Rattle.sums.specs.Orders.{Perm, Tree, part, both, parts, brought, joined}
 use Rattle.octets.specs.Pick.{pick}
 use Rattle.sums.specs.Sums.{held, zero, add_of, longer_of}

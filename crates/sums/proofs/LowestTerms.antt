@@ -1,4 +1,4 @@
--- What reducedOf gives has the value of top / bottom, and is in lowest terms; where bottom is 0 it is 0/1.
+-- What reduced_of gives has the value of top / bottom, and is in lowest terms; where bottom is 0 it is 0/1.
 -- Assumes nothing.
 use Prim.Native.Nat.{ℕ, ◌*◌, ◌/◌, ◌<◌, ◌∣◌}
 use native.Mathlib.Nat.{mul-one, mul-dvd-mul_left, dvd_of_mul-dvd-mul_left, eq-one_of_dvd-one, mul-div_cancel', mul_assoc, mul_comm}
@@ -7,7 +7,6 @@ use mathlib.Core.Path.{◌≡◌, refl, sym, ap, subst, ◌∙◌}
 use borrow.Author.Tests.{ne_eqb}
 use Rattle.sums.specs.Gcd.{gcd_of}
 use Rattle.sums.specs.Lowest.{reduced_of}
-use Rattle.sums.specs.declared.fraction.Fraction.{Fraction}
 use Rattle.sums.proofs.Divides.{gcd_divides_left, gcd_divides_right, gcd_greatest, gcd_pos}
 
 -- the divisor times what is left of a term is the term

@@ -1,7 +1,7 @@
 -- 02, K12: "the mean hold as a reduced fraction (0/1 where none was set; 0 may be set)"; "the mean follows the total hold".
 -- Assumes nothing.
 use Prim.Native.Nat.{ℕ, ◌*◌, ◌<◌}
-use mathlib.Core.Path.{◌≡◌, refl, ap₂, ◌∙◌}
+use mathlib.Core.Path.{◌≡◌, ap₂}
 use mathlib.Core.List.{List}
 use lib.ListN.{get_or}
 use Rattle.sums.specs.Block.{mean_by, mean_of}

@@ -1,7 +1,7 @@
 -- Blocks read back from their printed form: lines `file ..` and `all` are passed over where a block may begin, and then the ten lines of a block come in
 -- their order, each with its word, a blank before each number and one LF at its end. The mean is passed over: it is worked out anew.
 -- Assumes nothing.
-use Rattle.std.specs.Prelude.{ℕ, ◌+◌, Bool, true, false, not, ◌&&◌, List, [], ◌∷◌, eqb, length}
+use Rattle.std.specs.Prelude.{ℕ, Bool, true, false, not, ◌&&◌, List, [], ◌∷◌, eqb, length}
 use Rattle.octets.specs.Pick.{pick}
 use Rattle.sums.specs.Place.{opens, last_of_line, place_after, line_after}
 use Rattle.sums.specs.Token.{no_token, token_with, packed, is_packed, number_of}

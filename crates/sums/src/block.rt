@@ -6,7 +6,7 @@ ghost use Rattle.sums.specs.Block.{empty_of, join_at, join_of, plus_of, mean_by,
 use crate::fraction::{Fraction, reduced};
 use crate::total::{Total, add, longer};
 
-#[derive(Drop)]
+#[derive(Clone, Copy)]
 pub enum Mean {
     Exact(Fraction),
     Over,

@@ -3,7 +3,7 @@ ghost use Rattle.std.specs.Prelude.{◌≡◌};
 ghost use Rattle.sums.specs.Gcd.{gcd_of};
 ghost use Rattle.sums.specs.Lowest.{reduced_of};
 
-#[derive(Drop)]
+#[derive(Clone, Copy)]
 pub struct Fraction {
     pub top: u64,
     pub bottom: u64,

@@ -7,7 +7,7 @@ use crate::place::{last_of_line, line_after, opens_line, place_after};
 use crate::token::{Number, Token, is_word, no_token, number_of, token_with};
 
 // Where in a line the reader is: in its word, in a number, in a line that is passed over; or behind a line that is of no block.
-#[derive(Drop)]
+#[derive(Clone, Copy)]
 pub enum Stage {
     Word,
     Number,
@@ -15,7 +15,7 @@ pub enum Stage {
     Fault,
 }
 
-#[derive(Drop)]
+#[derive(Clone, Copy)]
 pub struct Reader {
     pub stage: Stage,
     // The place of the number that is read, or, at a line's beginning, of its first.

@@ -4,7 +4,7 @@ ghost use Rattle.sums.specs.Token.{no_token, digit_fits, word_with, seen_with, v
 
 use crate::total::Total;
 
-#[derive(Drop)]
+#[derive(Clone, Copy)]
 pub struct Token {
     // The octets, the first one highest.
     pub word: u64,
@@ -16,7 +16,7 @@ pub struct Token {
 }
 
 // What a token is: a number or `over`, or neither.
-#[derive(Drop)]
+#[derive(Clone, Copy)]
 pub enum Number {
     None,
     Of(Total),

@@ -2,7 +2,7 @@
 ghost use Rattle.std.specs.Prelude.{◌≡◌};
 ghost use Rattle.sums.specs.Sums.{add_of, longer_of};
 
-#[derive(Drop)]
+#[derive(Clone, Copy)]
 pub enum Total {
     Sum(u64),
     Over,
