@@ -7,6 +7,7 @@ import subprocess
 import sys
 
 from tools import ending
+from tools.handed import handed
 from tools.scenario.answers import BenchFault
 from tools.scenario.source import UsageFault
 from tools.scenario.stream import BENCH, ready
@@ -71,16 +72,20 @@ def check_out(out, files, others):
 def counted(command, files):
     """The blocks of the files and of all together, and what the program said of files that are at fault."""
     try:
-        done = subprocess.run([*command, "month", *files], stdin=subprocess.DEVNULL, capture_output=True)
+        with handed(files) as (names, ends):
+            done = subprocess.run([*command, "month", *names], stdin=subprocess.DEVNULL, capture_output=True, pass_fds=ends)
     except OSError as fault:
         raise BenchFault(f"{command[0]} can't be run: {fault.strerror}") from None
     except ValueError:
         raise UsageFault("a name with an octet 0 is no file's") from None
-    said = visible(done.stderr.decode("utf-8", "backslashreplace").replace("\n", "\r")).split("\\r")
-    said = [line for line in said if line]
+    errors = done.stderr.decode("utf-8", "backslashreplace")
+    for name, file in sorted(zip(names, files), key=lambda pair: -len(pair[0])):
+        if name != file:
+            errors = errors.replace(name, os.fsencode(file).decode("utf-8", "backslashreplace"))
+    said = [line for line in visible(errors.replace("\n", "\r")).split("\\r") if line]
     if not done.stdout:
         raise BenchFault(f"the bench program did not count: {said[0] if said else f'it ended with status {done.returncode}'}")
-    return (*blocks.read(done.stdout, files), said)
+    return (*blocks.read(done.stdout, names), said)
 
 
 def put(text):

@@ -12,6 +12,8 @@ import subprocess
 import sys
 import tempfile
 
+from tools.handed import handed
+
 from . import codes, source, stream, words
 from .answers import LINE, WHY, BenchFault, read
 from .because import because
@@ -151,7 +153,8 @@ def said_of(found, events, text, name, programs, log, log_name):
 def check(command, octets, log):
     """What `check` says of a log; a fault where the program does not say it."""
     try:
-        done = subprocess.run([*command, octets, log], capture_output=True, timeout=stream.SECONDS)
+        with handed([octets, log]) as (names, ends):
+            done = subprocess.run([*command, *names], capture_output=True, pass_fds=ends, timeout=stream.SECONDS)
     except OSError as fault:
         raise BenchFault(f"{command[0]} can't be run: {fault.strerror}") from None
     except subprocess.TimeoutExpired:

@@ -1,7 +1,7 @@
 -- The octets ahead in the input buffer: how many, those behind a record taken, and those there after a read.
 -- Assumes nothing.
 use Prim.Native.Nat.{ℕ, ◌+◌, ◌-◌, ◌≤◌}
-use mathlib.Core.Path.{◌≡◌, refl, sym, ap, ◌∙◌}
+use mathlib.Core.Path.{◌≡◌, ap, ◌∙◌}
 use mathlib.Core.Bool.{true}
 use mathlib.Core.List.{List, ◌++◌}
 use native.Mathlib.Omega.{arith}
@@ -9,7 +9,7 @@ use lib.Dec.{leb}
 use lib.ListN.{length, take, drop, length-drop}
 use lib.Seq.{drop_at, drop-drop, length-take-le, take-add, take_at}
 use borrow.Author.Tests.{le-leb, leb-true}
-use Rattle.octets.proofs.Branch.{by_bool, pick_by}
+use Rattle.octets.proofs.Branch.{pick_by}
 use Rattle.bench.specs.Run.{ahead_of, behind_of, left_of, shifted_of, within}
 
 module _ (at have : ℕ) (xs : List ℕ) (h : at ≤ have) (g : have ≤ length xs) where

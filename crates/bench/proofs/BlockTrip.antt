@@ -1,19 +1,19 @@
 -- A printed block, read back, adds its numbers, place by place, and the reader is again where a block may begin.
 -- Assumes nothing.
-use Prim.Native.Nat.{ℕ, zero, suc, ◌+◌, ◌≤◌, ◌<◌}
+use Prim.Native.Nat.{ℕ, zero, suc, ◌+◌, ◌<◌}
 use native.Mathlib.Omega.{arith}
-use mathlib.Core.Path.{◌≡◌, refl, sym, ap, ◌∙◌}
+use mathlib.Core.Path.{◌≡◌, refl, ◌∙◌}
 use mathlib.Core.Bool.{Bool, true, false, not, ◌&&◌}
 use mathlib.Core.List.{List, [], ◌∷◌, ◌++◌, append-nil, append_assoc}
 use lib.Dec.{eqb}
 use lib.ListN.{drop, get_or, length, length-map, length-set, take}
 use lib.Seq.{append_snoc}
 use borrow.Author.Tests.{lt-ltb}
-use Rattle.octets.proofs.Branch.{and_left, and_right, by_bool}
+use Rattle.octets.proofs.Branch.{and_left, and_right}
 use Rattle.sums.specs.Adding.{added_from, added_with, ends_number, read_from}
 use Rattle.sums.specs.Block.{block_of, join_at, join_of, mean_of, placewise, plus_of}
 use Rattle.sums.specs.Place.{opens, last_of_line, place_after, line_after, events_word, refusals_word, discards_word, joins_word, leaves_word, timeouts_word, holds_word, longest_word, total_word, mean_word}
-use Rattle.sums.specs.Reader.{heading_of, line_from, next_of, number_blank, number_line, word_blank, word_line}
+use Rattle.sums.specs.Reader.{heading_of, line_from, next_of, number_blank, number_line, word_blank}
 use Rattle.sums.specs.Sums as sums
 use Rattle.sums.specs.Sums.{held}
 use Rattle.sums.specs.Token.{no_token, word_with, seen_with, digit_fits, value_with, token_with, token_of, is_packed, number_of}

@@ -14,7 +14,6 @@ use Rattle.sums.specs.declared.total.Total.{Total}
 use Rattle.sums.specs.declared.total.Total.TheVariants.{Sum, Over}
 use Rattle.bench.specs.Block.{number_text, numbers_from, row_text, fraction_text, mean_number, mean_text}
 use Rattle.bench.specs.Output.{Output, Line, put_of, put_all}
-use Rattle.bench.specs.Text.{tens}
 use Rattle.bench.proofs.Digits.{tens_length}
 
 pub number_length : (t : Total) → length (number_text t) ≤ 21

@@ -3,7 +3,7 @@
 -- Assumes nothing.
 use Prim.Native.Nat.{ℕ, suc, ◌+◌}
 use mathlib.Core.Path.{◌≡◌, refl, sym, ap, ◌∙◌}
-use mathlib.Core.Bool.{Bool, true, false}
+use mathlib.Core.Bool.{true, false}
 use mathlib.Core.List.{List, [], ◌∷◌, ◌++◌}
 use borrow.Author.Tests.{eqb-true}
 use lib.Dec.{eqb}
@@ -11,7 +11,7 @@ use lib.ListN.{length}
 use native.Mathlib.Omega.{arith}
 use Rattle.octets.proofs.Branch.{by_bool}
 use Rattle.octets.specs.declared.links.Links.{Links}
-use Rattle.peer.proofs.Fits.{both, clash}
+use Rattle.peer.proofs.Fits.{both}
 use Rattle.peer.specs.Query.{query_left, query_number}
 use Rattle.peer.specs.Record.{exchange_number, is_free}
 use Rattle.peer.specs.declared.record.Record.{Record}

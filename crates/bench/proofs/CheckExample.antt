@@ -1,7 +1,7 @@
 -- What is said of small logs beside the input of WholeExample.antt, whose output is "1 3 - 0 0 0 - 0" and `stop`: computed.
 -- Assumes nothing.
-use mathlib.Core.Path.{◌≡◌, refl}
-use mathlib.Core.List.{List, [], ◌∷◌}
+use mathlib.Core.Path.{◌≡◌}
+use mathlib.Core.List.{[], ◌∷◌}
 use Rattle.rival.specs.Alike.{met_from, same}
 use Rattle.rival.specs.Log.{field_at, field_of, lines_of, pieces_of, said_of, say_of, up_to}
 use Rattle.rival.specs.declared.Said.TheVariants.{Right, Differs, Short, Long}

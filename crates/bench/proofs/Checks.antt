@@ -1,35 +1,33 @@
 -- A check keeps to the run and to the comparison, round by round; and what it says in the end is what is said of the whole input and the whole log.
 -- Assumes nothing.
 use Prim.Native.Nat.{ℕ, ◌+◌, ◌-◌, ◌≤◌, ◌<◌}
-use mathlib.Core.Path.{◌≡◌, refl, sym, ap, ◌∙◌}
-use mathlib.Core.Bool.{Bool, true, false}
+use mathlib.Core.Path.{◌≡◌, refl, sym, ◌∙◌}
+use mathlib.Core.Bool.{true, false}
 use mathlib.Core.List.{List, [], ◌∷◌, ◌++◌, append_assoc}
 use mathlib.Core.Logic.{◌↔◌}
 use native.Mathlib.Nat.{sub-zero}
 use native.Mathlib.Omega.{arith}
-use lib.Dec.{eqb, leb}
-use lib.ListN.{length, replicate, take, drop}
+use lib.Dec.{leb}
+use lib.ListN.{length, replicate, take}
 use borrow.Author.Tests.{eq-eqb, le-leb, leb-false, leb-true}
 use Rattle.octets.proofs.Branch.{by_bool, pick_by}
-use Rattle.octets.specs.Pick.{pick}
 use Rattle.peer.proofs.Fits.{clash}
 use Rattle.rival.proofs.Exact.{exactly}
 use Rattle.rival.proofs.Passing.{taken_ours, taken_theirs}
 use Rattle.rival.proofs.Piecemeal.{settled_said}
 use Rattle.rival.specs.Beside.{compared_of, said_by}
 use Rattle.rival.specs.Log.{said_of}
-use Rattle.rival.specs.Pieces.{Went, begun, compared, is_none, log_came, ours_came}
+use Rattle.rival.specs.Pieces.{begun, compared, is_none, log_came, ours_came}
 use Rattle.rival.specs.Says.{Says}
 use Rattle.rival.specs.declared.Said.{Said}
-use Rattle.rival.specs.declared.Standing.{Standing}
 use Rattle.bench.specs.Check.{CheckRound, Checking, Held, Logged, Ours, beside_on, broke, came, check_at_first, held, is_settled, is_unread, lost, off, on, part_of, read_on, same, stayed, turned, unread, with_run}
 use Rattle.bench.specs.Printed.{bench_output}
 use Rattle.bench.specs.Rounds.{ahead, start, went}
-use Rattle.bench.specs.Run.{ahead_of, behind_of, flushed_of, start_of, within}
+use Rattle.bench.specs.Run.{ahead_of, behind_of, flushed_of, start_of}
 use Rattle.bench.specs.declared.checker.Check.{Check}
 use Rattle.bench.specs.declared.run.Prints.TheVariants.{Lines}
 use Rattle.bench.specs.declared.run.Run.{Run}
-use Rattle.bench.proofs.Ahead.{ahead_behind, ahead_length, behind_is}
+use Rattle.bench.proofs.Ahead.{ahead_behind, ahead_length}
 use Rattle.bench.proofs.Reached as reached
 use Rattle.bench.proofs.Reached.{Turns, failed_then, went_on}
 use Rattle.bench.proofs.Whole.{kept, to_come}

@@ -1,19 +1,12 @@
--- What play over records lent says, as that by value says it, and where it is the step; an array of records as a struct's field.
+-- What play over records lent says, as that by value says it, and where it is the step.
 -- Assumes nothing.
 use Prim.Native.Nat.{ℕ, ◌≤◌}
-use mathlib.Core.Path.{◌≡◌, refl, sym, ap, ◌∙◌}
+use mathlib.Core.Path.{◌≡◌, sym, ap, ◌∙◌}
 use mathlib.Core.Bool.{true, false}
-use mathlib.Core.List.{List, [], ◌∷◌, map}
+use mathlib.Core.List.{List}
 use native.Mathlib.Omega.{arith}
-use lib.ListN.{length, length-map}
+use lib.ListN.{length}
 use borrow.Author.Tests.{eq-eqb}
-use mir.Val.{Val}
-use denote.Shadow.{shadow}
-use denote.Laws.{Is}
-use denote.Array.{Array, each}
-use denote.RattleType.{RattleType}
-use denote.Struct.Struct.{Struct}
-use denote.Struct.Declared.{Declared, row, shape}
 use Rattle.peer.specs.declared.record.Record.{Record}
 use Rattle.peer.specs.declared.settings.Settings.{Settings}
 use Rattle.table.specs.declared.rules.answer.Answer.{Answer}
@@ -28,19 +21,6 @@ use Rattle.table.proofs.Octets.HostLaws.{refused_2}
 use Rattle.table.proofs.Octets.RuledLaws.{ruled_in_step, ruled_is_step}
 use Rattle.table.proofs.Theorems.RefusedExactly.{refusal_first}
 use Rattle.table.proofs.Theorems.RefusedKeeps.{refused_keeps}
-
-module _ (T : Declared) where
-  abbrev Tuple : RattleType
-  Tuple = Struct (shape T)
-
-  each_to_field : (xs : List T.D) (us : List Val) → shadow (each T.D (row T).own xs us) → shadow (each Tuple.Denot Tuple.own (map T.to xs) us)
-  each_to_field [] [] s = s
-  each_to_field [] (u ∷ us) s = s
-  each_to_field (x ∷ xs) [] s = s
-  each_to_field (x ∷ xs) (u ∷ us) s = (s.0, each_to_field xs us s.1)
-
-  pub field_of_array : (n : ℕ) (xs : List T.D) (vs : List Val) → Is (Array (row T) n) xs vs → Is (Array Tuple n) (map T.to xs) vs
-  field_of_array n xs vs p = (p.0, ((p.1.0.0, length-map xs T.to ∙ p.1.0.1), each_to_field xs p.0 p.1.1))
 
 pub lent_says : (t : List Record) (s : Settings) (e : Event) (xs l : List ℕ) (r : Answer) (z : List Record) (k : List ℕ) → length t ≡ 32 →
     (r ≡ ruled_lent_answer t s e xs l) × ((z ≡ ruled_lent_table t s e xs l) × (k ≡ ruled_lent_in t s e xs l)) →

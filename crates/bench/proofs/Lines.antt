@@ -1,13 +1,17 @@
 -- How long a line is.
 -- Assumes nothing.
 use Prim.Native.Nat.{ℕ, ◌≤◌}
+use mathlib.Core.Path.{◌≡◌, refl}
+use Rattle.std.proofs.Common.{append_assoc}
+use mathlib.Core.List.{◌++◌}
+use Rattle.bench.specs.Text.{field_of}
 use native.Mathlib.Omega.{arith}
 use lib.ListN.{length, length-append}
 use Rattle.table.specs.declared.rules.answer.Answer.{Answer}
 use Rattle.table.specs.declared.rules.why.Reason.{Reason}
 use Rattle.table.specs.declared.rules.why.Reason.TheVariants.{None, Refusal, NoClass, ClassFilter, GroupRule, NothingToDo}
 use Rattle.table.specs.declared.rules.why.Why.{Why}
-use Rattle.bench.specs.Changes.{because_text, free_line}
+use Rattle.bench.specs.Changes.{because_text, because_word, free_line}
 use Rattle.bench.specs.Line.{front_of, back_of}
 use Rattle.bench.specs.Why.{reasoned_text, refusal_word, why_line, why_text, word_of}
 use Rattle.bench.proofs.Digits.{field_length, tens_length}
@@ -35,13 +39,22 @@ pub reasoned_length : (r : Reason) (v : ℕ) → length (reasoned_text r v) ≤ 
 unfolding reasoned_text
 reasoned_length r v = simp length-append (omega (arith, word_length r, tens_length 20 v))
 
+-- both texts end as one function puts them
+pub why_is : (n : ℕ) (r : Reason) (v : ℕ) → why_text n r v ≡ field_of 20 n ++ reasoned_text r v
+unfolding why_text reasoned_text
+why_is n r v = simp append_assoc refl
+
+pub because_is : (r : Reason) (v : ℕ) → because_text r v ≡ because_word ++ reasoned_text r v
+unfolding because_text reasoned_text
+because_is r v = refl
+
 pub why_length : (n : ℕ) (w : Why) → length (why_line n w) ≤ 64
 unfolding why_text
-why_length n w = simp length-append (omega (arith, field_length 20 n, reasoned_length w.reason w.value))
+why_length n w = simp length-append (omega (arith, field_length 20 n, word_length w.reason, tens_length 20 w.value))
 
 pub because_length : (r : Reason) (v : ℕ) → length (because_text r v) ≤ 64
 unfolding because_text
-because_length r v = simp length-append (omega (arith, reasoned_length r v))
+because_length r v = simp length-append (omega (arith, word_length r, tens_length 20 v))
 
 pub free_length : (i : ℕ) → length (free_line i) ≤ 64
 unfolding free_line

@@ -1,7 +1,6 @@
 -- The numbers of a file, computed: an access point is told of a clock step of 0 TU, which is refused, and then of half a frame. It is made of octets, as `month_counts`
 -- asks, and stops. And of files together.
 -- Assumes nothing.
-use Prim.Native.Nat.{ℕ}
 use mathlib.Core.Path.{◌≡◌, refl}
 use mathlib.Core.Bool.{true}
 use mathlib.Core.List.{List, [], ◌∷◌, map}

@@ -1,11 +1,10 @@
 -- What is printed, record by record, whatever follows: the settings, an event, a fault, and what the end of the input cuts.
 -- Assumes nothing.
-use Prim.Native.Nat.{ℕ, zero, suc, ◌+◌, ◌-◌, ◌≤◌}
-use mathlib.Core.Path.{◌≡◌, refl, sym, ap, ◌∙◌}
-use mathlib.Core.Bool.{Bool, true, false}
+use Prim.Native.Nat.{ℕ, zero, suc, ◌+◌, ◌≤◌}
+use mathlib.Core.Path.{◌≡◌, refl, ap, ◌∙◌}
+use mathlib.Core.Bool.{true}
 use mathlib.Core.List.{List, [], ◌∷◌, ◌++◌}
 use native.Mathlib.Nat.{le_of_suc-le-suc, not-suc-le-zero}
-use native.Mathlib.Numerals.{add-one}
 use native.Mathlib.Omega.{arith}
 use lib.Dec.{eqb}
 use lib.ListN.{length, drop, length-append}
@@ -20,7 +19,6 @@ use Rattle.bench.specs.Line.{stop_line}
 use Rattle.bench.specs.Output.{said}
 use Rattle.bench.specs.Play.{number_after}
 use Rattle.bench.specs.Printed.{Shown, Standing, begun_with, behind_first, played_on, printed_from}
-use Rattle.table.specs.declared.host.input.Taken.{Taken}
 use Rattle.table.specs.declared.host.input.Taken.TheVariants.{Cut, Fault, First, Next}
 use Rattle.bench.proofs.MoreOctets.{body_more, field_more, later}
 use Rattle.table.proofs.Octets.InputLaws.{is_short, is_cut, record_whole}

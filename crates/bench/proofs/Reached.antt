@@ -1,8 +1,8 @@
--- Where the program's loop gets: each round goes on from the rounds before, unless a descriptor failed; then the run is done.
+-- Where the program's loop gets: each round goes on from the rounds before, unless a read or a write failed; then the run is done.
 -- Assumes nothing.
 use Prim.Native.Nat.{ℕ, ◌+◌, ◌≤◌}
 use mathlib.Core.Path.{◌≡◌, refl}
-use mathlib.Core.Bool.{Bool, true, false}
+use mathlib.Core.Bool.{true, false}
 use mathlib.Core.List.{List}
 use native.Mathlib.Omega.{arith}
 use lib.ListN.{length, replicate}

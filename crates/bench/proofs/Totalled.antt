@@ -2,16 +2,16 @@
 -- Assumes nothing.
 use Prim.Native.Nat.{ℕ, ◌^◌, ◌-◌}
 use mathlib.Core.Path.{◌≡◌, refl, sym, ap, ◌∙◌}
-use mathlib.Core.Bool.{Bool, true}
+use mathlib.Core.Bool.{true}
 use mathlib.Core.List.{List, [], ◌∷◌, ◌++◌, map}
 use lib.ListN.{length, length-map, set}
 use Rattle.sums.specs.Adding.{added_from, added_with, ends_number, finished_of, read_from}
-use Rattle.sums.specs.Block.{added_to, both_at, both_of, block_of, empty_of, join_at, join_of, nothing, placewise, tally}
+use Rattle.sums.specs.Block.{added_to, both_at, block_of, empty_of, join_at, join_of, nothing, placewise, tally}
 use Rattle.sums.specs.Orders.{Perm, joined}
-use Rattle.sums.specs.Place.{line_after, opens}
+use Rattle.sums.specs.Place.{line_after}
 use Rattle.sums.specs.Reader.{all_word, file_word, heading_of, line_from, next_of, start_of, word_blank, word_line}
 use Rattle.sums.specs.Sums.{held}
-use Rattle.sums.specs.Token.{digit_fits, is_packed, no_token, seen_with, token_with, value_with, word_with}
+use Rattle.sums.specs.Token.{digit_fits, is_packed, seen_with, token_with, value_with, word_with}
 use Rattle.sums.specs.declared.total.Total.{Total}
 use Rattle.sums.specs.declared.total.Total.TheVariants.{Sum, Over}
 use Rattle.sums.proofs.Counting.{one_by_one}

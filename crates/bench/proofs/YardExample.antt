@@ -1,7 +1,7 @@
 -- A capture, imported: a frame at once; a packet cut short, whose time still counts; 1,048 microseconds, a TU with 24 over; a gap of 65,536 TU;
 -- time that goes back. The same in the other byte order; and the three refusals.
 -- Assumes nothing.
-use Prim.Native.Nat.{ℕ, ◌+◌}
+use Prim.Native.Nat.{ℕ}
 use mathlib.Core.Path.{◌≡◌, refl}
 use mathlib.Core.Bool.{Bool, true, false}
 use mathlib.Core.List.{List, [], ◌∷◌, ◌++◌, reverse}

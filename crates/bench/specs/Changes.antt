@@ -14,14 +14,14 @@ use Rattle.table.specs.declared.rules.why.Why.{Why}
 use Rattle.bench.specs.Output.{Line, short}
 use Rattle.bench.specs.Text.{tens}
 use Rattle.bench.specs.Trace.{current_lines, octets_lines, place_lines}
-use Rattle.bench.specs.Why.{reasoned_text}
+use Rattle.bench.specs.Why.{word_of}
 
 -- "  because ", the reason's word and the value beside it, as 02, K4 has them
 abbrev pub because_word : List ℕ
 because_word = 32 ∷ 32 ∷ 98 ∷ 101 ∷ 99 ∷ 97 ∷ 117 ∷ 115 ∷ 101 ∷ 32 ∷ []
 
 unfoldable pub because_text : Reason → ℕ → List ℕ
-because_text reason value = because_word ++ reasoned_text reason value
+because_text reason value = because_word ++ word_of reason ++ tens 20 value ++ (10 ∷ [])
 
 abbrev pub because_line : Why → List ℕ
 because_line w = because_text w.reason w.value

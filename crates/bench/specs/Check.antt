@@ -4,7 +4,6 @@ use Rattle.std.specs.Prelude.{ℕ, ◌≤◌, Bool, true, false, List, [], ◌++
 use Rattle.octets.specs.Pick.{pick}
 use Rattle.rival.specs.Beside.{compared_of, standing_at_first}
 use Rattle.rival.specs.Pieces.{Went, settled_of}
-use Rattle.rival.specs.declared.Passed.{Passed}
 use Rattle.bench.specs.Rounds.{Ran}
 use Rattle.bench.specs.Run.{ahead_of, behind_of, flushed_of, start_of, within}
 use Rattle.bench.specs.Turn.{TurnOf}
@@ -57,7 +56,7 @@ pub data Ours (ts xs o : List ℕ) (c : Check) (us ys k : List ℕ) (q : Check) 
       q ≡ with_run c t → Ours ts xs o c us ys k q
   broke : q.broken ≡ true → Ours ts xs o c us ys k q
 
--- More of the log, the same way. What was read is the descriptor's affair.
+-- More of the log, the same way. What was read is the reader's affair.
 pub data Logged (xs : List ℕ) (c : Check) (ys : List ℕ) (q : Check) : Type 0 where
   stayed : ys ≡ xs → q ≡ c → Logged xs c ys q
   came : (n : ℕ) → c.have ≤ c.at → q ≡ read_on c n (length ys) → Logged xs c ys q

@@ -1,7 +1,7 @@
 -- The program's rounds, one behind the other: the octets read so far and the octets written out so far. What a read gave stands in the input
 -- buffer behind those left; what is handed to a write are the first octets of the output buffer.
 -- Assumes nothing.
-use Rattle.std.specs.Prelude.{ℕ, ◌+◌, ◌≤◌, Bool, true, false, List, [], ◌++◌, ◌≡◌, length, replicate, take}
+use Rattle.std.specs.Prelude.{ℕ, ◌+◌, ◌≤◌, false, List, [], ◌++◌, ◌≡◌, length, replicate, take}
 use Rattle.table.specs.Input.{taken_of}
 use Rattle.bench.specs.Run.{ahead_of, flushed_of, left_of, shifted_of, start_of}
 use Rattle.bench.specs.Turn.{Took, refilled_of}

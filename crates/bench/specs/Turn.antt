@@ -1,6 +1,6 @@
--- A turn of the run: one record, or more input. What is read and whether a write went well is the descriptors' affair; all else is said.
+-- A turn of the run: one record, or more input. What is read and whether a write went well is the reader's and the writer's affair; all else is said.
 -- Assumes nothing.
-use Rattle.std.specs.Prelude.{ℕ, ◌+◌, ◌≤◌, ◌<◌, Bool, true, false, List, ◌≡◌, eqb, leb, length, get_or, take}
+use Rattle.std.specs.Prelude.{ℕ, ◌+◌, ◌≤◌, ◌<◌, true, false, List, ◌≡◌, eqb, leb, length, get_or, take}
 use Rattle.peer.specs.Settings.{settings_fit}
 use Rattle.table.specs.Host.{host_table}
 use Rattle.table.specs.Rows.{records_of}

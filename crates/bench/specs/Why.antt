@@ -29,7 +29,7 @@ unfoldable pub reasoned_text : Reason → ℕ → List ℕ
 reasoned_text reason value = word_of reason ++ tens 20 value ++ (10 ∷ [])
 
 unfoldable pub why_text : ℕ → Reason → ℕ → List ℕ
-why_text number reason value = field_of 20 number ++ reasoned_text reason value
+why_text number reason value = field_of 20 number ++ word_of reason ++ tens 20 value ++ (10 ∷ [])
 
 abbrev pub why_line : ℕ → Why → List ℕ
 why_line number w = why_text number w.reason w.value

@@ -3,14 +3,16 @@ ghost use Rattle.bench.specs.Check.{CheckRound, Logged, Ours};
 
 use crate::checker::{Check, at_first, beside, is_told, is_unread, lost, said, with_run};
 use crate::import::{flush, unreadable};
+use crate::outside::{Source, argument, argument_count, open, say};
 use crate::run::{behind, turn};
 use crate::said::write_said;
-use libc::STDERR_FILENO;
 use rival::Said;
+use std::io::Read;
 
 // More of our lines, where all that there are have been compared.
 fn ours_on(
-    fd: i32,
+    rt: &HostRuntime,
+    from: &mut Source,
     path: &[u8],
     table: &mut [u8],
     input: &mut [u8],
@@ -27,9 +29,9 @@ fn ours_on(
         return c;
     }
     r.out = 0;
-    let t = turn(fd, table, input, output, r);
+    let t = turn(from, table, input, output, r);
     if is_unread(t) {
-        unreadable(path);
+        unreadable(rt, path, from.failure());
         return lost(c);
     }
     if output.len() < t.out {
@@ -39,7 +41,7 @@ fn ours_on(
 }
 
 // More of the log, where all that there is has been compared.
-fn log_on(fd: i32, path: &[u8], log: &mut [u8], c: Check) -> Check
+fn log_on(rt: &HostRuntime, from: &mut Source, path: &[u8], log: &mut [u8], c: Check) -> Check
     ensures { Logged log.old c log.new result }
 {
     if c.at < c.have {
@@ -48,31 +50,34 @@ fn log_on(fd: i32, path: &[u8], log: &mut [u8], c: Check) -> Check
     if c.over {
         return c;
     }
-    let got = libc::read(fd, log);
-    if got < 0 {
-        unreadable(path);
-        return lost(c);
+    match from.read(log) {
+        Ok(n) => {
+            let mut next = c;
+            next.at = 0;
+            next.have = behind(0, n, log.len());
+            next.over = n == 0;
+            next
+        }
+        Err(e) => {
+            unreadable(rt, path, e);
+            lost(c)
+        }
     }
-    let n = io::count(got, log);
-    let mut next = c;
-    next.at = 0;
-    next.have = behind(0, n, log.len());
-    next.over = n == 0;
-    next
 }
 
 // Prints the one line.
-fn tell(v: Said) {
+fn tell(rt: &HostRuntime, v: Said) {
     let mut line = [0u8; 64];
     let n = write_said(&mut line, 0, v);
-    flush(&line, n);
+    flush(rt, &line, n);
 }
 
 // A round: more of our lines and more of the log where they are wanted, and the two beside each other.
 fn check_round(
-    fd: i32,
+    rt: &HostRuntime,
+    from: &mut Source,
     path: &[u8],
-    other: i32,
+    other: &mut Source,
     other_path: &[u8],
     table: &mut [u8],
     input: &mut [u8],
@@ -82,11 +87,11 @@ fn check_round(
 ) -> Check
     ensures { CheckRound table.old input.old output.old log.old c table.new input.new output.new log.new result }
 {
-    let a = ours_on(fd, path, table, input, output, c);
+    let a = ours_on(rt, from, path, table, input, output, c);
     if a.broken {
         return a;
     }
-    let b = log_on(other, other_path, log, a);
+    let b = log_on(rt, other, other_path, log, a);
     if b.broken {
         return b;
     }
@@ -95,7 +100,13 @@ fn check_round(
 
 // The two files, open. A proved loop has to end, and nothing says that a file does: so the turns are counted down from a number that no check
 // uses up.
-fn check_all(fd: i32, path: &[u8], other: i32, other_path: &[u8]) {
+fn check_all(
+    rt: &HostRuntime,
+    from: &mut Source,
+    path: &[u8],
+    other: &mut Source,
+    other_path: &[u8],
+) {
     let mut table = [0u8; 1536];
     let mut input = [0u8; 65536];
     let mut output = [0u8; 65536];
@@ -104,7 +115,8 @@ fn check_all(fd: i32, path: &[u8], other: i32, other_path: &[u8]) {
     let mut turns = u64::MAX;
     while turns > 0 {
         c = check_round(
-            fd,
+            rt,
+            from,
             path,
             other,
             other_path,
@@ -118,7 +130,7 @@ fn check_all(fd: i32, path: &[u8], other: i32, other_path: &[u8]) {
             return;
         }
         if is_told(c) {
-            tell(said(&output, &log, c));
+            tell(rt, said(&output, &log, c));
             return;
         }
         turns -= 1;
@@ -126,30 +138,29 @@ fn check_all(fd: i32, path: &[u8], other: i32, other_path: &[u8]) {
 }
 
 // The two files that the arguments name.
-pub fn check_files() {
-    if os::arg_count() != 4 {
-        io::write_all(
-            STDERR_FILENO,
-            b"bench: check takes two files: 'check INPUT LOG'\n",
-        );
+pub fn check_files(rt: &HostRuntime) {
+    if argument_count(rt) != 4 {
+        say(rt, b"bench: check takes two files: 'check INPUT LOG'\n");
         return;
     }
-    let mut path = io::buffer();
-    let n = os::arg(2, &mut path);
-    let fd = os::open_read(&path[..n]);
-    if fd < 0 {
-        unreadable(&path[..n]);
-        return;
+    let mut path = [0u8; 4096];
+    let n = argument(rt, 2, &mut path);
+    match open(rt, &path[..n]) {
+        Ok(file) => check_with(rt, file, &path[..n]),
+        Err(e) => unreadable(rt, &path[..n], e),
     }
-    let mut other_path = io::buffer();
-    let m = os::arg(3, &mut other_path);
-    let other = os::open_read(&other_path[..m]);
-    if other < 0 {
-        unreadable(&other_path[..m]);
-        libc::close(fd);
-        return;
+}
+
+// The same, with the input open.
+fn check_with(rt: &HostRuntime, file: Source, path: &[u8]) {
+    let mut other_path = [0u8; 4096];
+    let m = argument(rt, 3, &mut other_path);
+    match open(rt, &other_path[..m]) {
+        Ok(log) => {
+            let mut from = file;
+            let mut other = log;
+            check_all(rt, &mut from, path, &mut other, &other_path[..m]);
+        }
+        Err(e) => unreadable(rt, &other_path[..m], e),
     }
-    check_all(fd, &path[..n], other, &other_path[..m]);
-    libc::close(other);
-    libc::close(fd);
 }

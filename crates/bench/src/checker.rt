@@ -8,7 +8,7 @@ use rival::{Said, Standing, compare, ending, is_settled, start};
 
 // Where a check stands. Of the output buffer the octets from `mark` on, as far as it is filled, are still to be compared; of the log's buffer
 // those from `at` to `have`.
-#[derive(Drop)]
+#[derive(Clone, Copy)]
 pub struct Check {
     pub run: Run,
     pub standing: Standing,

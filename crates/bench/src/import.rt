@@ -5,14 +5,18 @@ ghost use Rattle.bench.specs.Importer.{is_over};
 
 use crate::importer::{Stage, State, ending, start, turn};
 use crate::input::shift;
+use crate::outside::{
+    Source, argument, argument_count, open, print, read_full, say, say_error, say_number,
+};
 use crate::run::behind;
 use crate::text::has_room;
-use libc::{STDERR_FILENO, STDOUT_FILENO};
+use std::io;
+use std::io::Read;
 use table::host::input::{Taken, record_length, take};
 
 // Where an import stands. Of the input buffer the octets from `at` to `have` are still to be taken; of the output buffer the first `out` are
 // still to be written.
-#[derive(Drop)]
+#[derive(Clone, Copy)]
 struct Job {
     state: State,
     at: usize,
@@ -50,86 +54,110 @@ fn is_over(s: State) -> bool
 }
 
 // A line on standard error that names a file.
-pub(crate) fn complain(path: &[u8], what: &[u8]) {
-    io::write_all(STDERR_FILENO, b"bench: ");
-    io::write_all(STDERR_FILENO, path);
-    io::write_all(STDERR_FILENO, what);
+pub(crate) fn complain(rt: &HostRuntime, path: &[u8], what: &[u8]) {
+    say(rt, b"bench: ");
+    say(rt, path);
+    say(rt, what);
 }
 
 // The same, with what the system says.
-pub(crate) fn unreadable(path: &[u8]) {
-    io::write_all(STDERR_FILENO, b"bench: ");
-    os::fail(path);
+pub(crate) fn unreadable(rt: &HostRuntime, path: &[u8], e: io::Error) {
+    complain(rt, path, b": ");
+    say_error(rt, e);
+    say(rt, b"\n");
 }
 
 // Writes out what lies in the buffer; whether that went well.
-pub(crate) fn flush(output: &[u8], n: usize) -> bool {
+pub(crate) fn flush(rt: &HostRuntime, output: &[u8], n: usize) -> bool {
     if output.len() < n {
         return false;
     }
-    io::write_all(STDOUT_FILENO, &output[..n])
+    print(rt, &output[..n])
 }
 
 // The last line, on standard error.
-fn report(s: State, left: usize) {
+fn report(rt: &HostRuntime, s: State, left: usize) {
     let counts = s.counts;
     let refusal = ending(s, left);
-    io::write_all(STDERR_FILENO, b"import: ");
-    io::print_decimal(STDERR_FILENO, counts.packets);
-    io::write_all(STDERR_FILENO, b" packets, ");
-    io::print_decimal(STDERR_FILENO, counts.left);
-    io::write_all(STDERR_FILENO, b" left out, refusal ");
-    io::print_decimal(STDERR_FILENO, refusal as u64);
-    io::write_all(STDERR_FILENO, b"\n");
+    say(rt, b"import: ");
+    say_number(rt, counts.packets);
+    say(rt, b" packets, ");
+    say_number(rt, counts.left);
+    say(rt, b" left out, refusal ");
+    say_number(rt, refusal as u64);
+    say(rt, b"\n");
 }
 
 // Reads on behind what is left.
-fn refill(fd: i32, path: &[u8], input: &mut [u8], output: &[u8], j: Job) -> Job {
+fn refill(
+    rt: &HostRuntime,
+    from: &mut Source,
+    path: &[u8],
+    input: &mut [u8],
+    output: &[u8],
+    j: Job,
+) -> Job {
     let mut next = j;
     let left = shift(input, j.at, j.have);
-    let got = libc::read(fd, &mut input[left..]);
-    if got < 0 {
-        unreadable(path);
-        flush(output, j.out);
-        next.done = true;
-        return next;
+    match from.read(&mut input[left..]) {
+        Ok(n) => {
+            next.at = 0;
+            next.have = behind(left, n, input.len());
+            next.over = n == 0;
+            next
+        }
+        Err(e) => {
+            unreadable(rt, path, e);
+            flush(rt, output, j.out);
+            next.done = true;
+            next
+        }
     }
-    let n = io::count(got, &input[left..]);
-    next.at = 0;
-    next.have = behind(left, n, input.len());
-    next.over = n == 0;
-    next
 }
 
 // The end: what lies in the buffer is written out, and the last line.
-fn finish(output: &[u8], j: Job) -> Job {
+fn finish(rt: &HostRuntime, output: &[u8], j: Job) -> Job {
     let mut next = j;
     next.done = true;
-    if flush(output, j.out) {} else {
+    if flush(rt, output, j.out) {} else {
         return next;
     }
     if j.have < j.at {
         return next;
     }
     let s = j.state;
-    report(s, j.have - j.at);
+    report(rt, s, j.have - j.at);
     next
 }
 
 // More of the capture is wanted.
-fn wanted(fd: i32, path: &[u8], input: &mut [u8], output: &[u8], j: Job) -> Job {
+fn wanted(
+    rt: &HostRuntime,
+    from: &mut Source,
+    path: &[u8],
+    input: &mut [u8],
+    output: &[u8],
+    j: Job,
+) -> Job {
     if j.over {
-        return finish(output, j);
+        return finish(rt, output, j);
     }
     let s = j.state;
     if is_over(s) {
-        return finish(output, j);
+        return finish(rt, output, j);
     }
-    refill(fd, path, input, output, j)
+    refill(rt, from, path, input, output, j)
 }
 
 // One turn, or more input; the output is written out where little room is left.
-fn advance(fd: i32, path: &[u8], input: &mut [u8], output: &mut [u8], j: Job) -> Job {
+fn advance(
+    rt: &HostRuntime,
+    from: &mut Source,
+    path: &[u8],
+    input: &mut [u8],
+    output: &mut [u8],
+    j: Job,
+) -> Job {
     let at = j.at;
     let have = j.have;
     let mut next = j;
@@ -148,12 +176,12 @@ fn advance(fd: i32, path: &[u8], input: &mut [u8], output: &mut [u8], j: Job) ->
     next.at = behind(at, t.taken, have);
     next.out = t.out;
     if t.wants {
-        return wanted(fd, path, input, output, next);
+        return wanted(rt, from, path, input, output, next);
     }
     if has_room(output.len(), next.out, 8192) {
         return next;
     }
-    let well = flush(output, next.out);
+    let well = flush(rt, output, next.out);
     next.out = 0;
     next.done = !well;
     next
@@ -161,7 +189,7 @@ fn advance(fd: i32, path: &[u8], input: &mut [u8], output: &mut [u8], j: Job) ->
 
 // The capture, behind the settings record that is in the output already. A proved loop has to end, and nothing says that a file does: so the
 // turns are counted down from a number that no run uses up.
-fn import_all(fd: i32, path: &[u8], output: &mut [u8], out: usize) {
+fn import_all(rt: &HostRuntime, from: &mut Source, path: &[u8], output: &mut [u8], out: usize) {
     let mut input = [0u8; 65536];
     let mut j = Job {
         state: start(),
@@ -176,52 +204,61 @@ fn import_all(fd: i32, path: &[u8], output: &mut [u8], out: usize) {
         if j.done {
             return;
         }
-        j = advance(fd, path, &mut input, output, j);
+        j = advance(rt, from, path, &mut input, output, j);
         turns -= 1;
     }
 }
 
 // Reads the settings record to the front of the buffer; its length, or 0 where the file is none.
-fn settings_from(path: &[u8], output: &mut [u8]) -> usize {
-    let fd = os::open_read(path);
-    if fd < 0 {
-        unreadable(path);
-        return 0;
+fn settings_from(rt: &HostRuntime, path: &[u8], output: &mut [u8]) -> usize {
+    match open(rt, path) {
+        Ok(file) => {
+            let n = settings_record(file, output);
+            if n == 0 {
+                complain(
+                    rt,
+                    path,
+                    b": not one settings record of 12, 14, 18 or 24 octets\n",
+                );
+            }
+            n
+        }
+        Err(e) => {
+            unreadable(rt, path, e);
+            0
+        }
     }
-    let n = io::read_full(fd, output);
-    libc::close(fd);
-    if is_settings(&output[..n]) {
-        return n;
-    }
-    complain(
-        path,
-        b": not one settings record of 12, 14, 18 or 24 octets\n",
-    );
-    0
+}
+
+// The same of a file that is open.
+fn settings_record(file: Source, output: &mut [u8]) -> usize {
+    let mut from = file;
+    let n = read_full(&mut from, output);
+    if is_settings(&output[..n]) { n } else { 0 }
 }
 
 // The two files that the arguments name.
-pub fn import_files() {
-    if os::arg_count() != 4 {
-        io::write_all(
-            STDERR_FILENO,
+pub fn import_files(rt: &HostRuntime) {
+    if argument_count(rt) != 4 {
+        say(
+            rt,
             b"bench: import takes two files: 'import SETTINGS CAPTURE'\n",
         );
         return;
     }
-    let mut path = io::buffer();
+    let mut path = [0u8; 4096];
     let mut output = [0u8; 65536];
-    let n = os::arg(2, &mut path);
-    let size = settings_from(&path[..n], &mut output);
+    let n = argument(rt, 2, &mut path);
+    let size = settings_from(rt, &path[..n], &mut output);
     if size == 0 {
         return;
     }
-    let m = os::arg(3, &mut path);
-    let fd = os::open_read(&path[..m]);
-    if fd < 0 {
-        unreadable(&path[..m]);
-        return;
+    let m = argument(rt, 3, &mut path);
+    match open(rt, &path[..m]) {
+        Ok(file) => {
+            let mut from = file;
+            import_all(rt, &mut from, &path[..m], &mut output, size);
+        }
+        Err(e) => unreadable(rt, &path[..m], e),
     }
-    import_all(fd, &path[..m], &mut output, size);
-    libc::close(fd);
 }

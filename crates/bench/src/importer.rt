@@ -9,7 +9,7 @@ use crate::passed::{Clock, Counts};
 use crate::text::has_room;
 
 // Where the importer stands in the file.
-#[derive(Drop)]
+#[derive(Clone, Copy)]
 pub enum Stage {
     // Before its header.
     Head,
@@ -21,7 +21,7 @@ pub enum Stage {
     Over(u8),
 }
 
-#[derive(Drop)]
+#[derive(Clone, Copy)]
 pub struct State {
     pub stage: Stage,
     // Numbers have their highest octet first.
@@ -31,7 +31,7 @@ pub struct State {
 }
 
 // After a turn: the octets taken, where the output ends, and whether more octets are wanted.
-#[derive(Drop)]
+#[derive(Clone, Copy)]
 pub struct After {
     pub state: State,
     pub taken: usize,

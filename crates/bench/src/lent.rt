@@ -12,14 +12,14 @@ use table::rules::answer::{Answer, Stepped};
 use table::rules::event::Event;
 
 // The table after an event, its answer, and the scratch.
-#[derive(Drop)]
+#[derive(Clone, Copy)]
 pub struct Played {
     pub table: [Record; 32],
     pub answer: Answer,
     pub scratch: [u8; 256],
 }
 
-// Lends a table of its own. It makes the only reference to an array of records, so its proof is a walk by hand, and it does nothing else.
+// Lends a table of its own, and does nothing else.
 fn lend(s: Settings, t: [Record; 32], e: Event, frame: &[u8], out: &mut [u8]) -> Stepped
     ensures { (result ≡ ruled_of s t e frame.now (length out.old)) × (out.new ≡ ruled_in s t e frame.now out.old) }
 {

@@ -1,4 +1,6 @@
 // The bench program: records on standard input, one line an event on standard output.
+#![tactic(auto)]
+
 mod block;
 mod capture;
 mod changes;
@@ -11,6 +13,7 @@ mod input;
 mod lent;
 mod line;
 mod month;
+mod outside;
 mod packet;
 mod passed;
 mod put;
@@ -29,30 +32,32 @@ ghost use Rattle.rival.specs.Alike.{same};
 
 use check::check_files;
 use import::import_files;
-use libc::STDIN_FILENO;
 use month::month_files;
+use outside::{argument, argument_count, say};
 use run::{Prints, Run, round};
 use total::total_blocks;
 
 // A proved loop has to end, and nothing says that an input does: so the turns are counted down from a number that no run uses up.
-fn run_all(prints: Prints) {
+fn run_all(rt: &HostRuntime, prints: Prints) {
     // The table, empty: every octet zero.
     let mut table = [0u8; 1536];
     let mut input = [0u8; 65536];
     let mut output = [0u8; 65536];
+    let mut from = rt.stdin();
+    let mut to = rt.stdout();
     let mut r = Run::new(prints);
     let mut turns = u64::MAX;
     while turns > 0 {
         if r.done {
             return;
         }
-        r = round(STDIN_FILENO, &mut table, &mut input, &mut output, r);
+        r = round(&mut from, &mut to, &mut table, &mut input, &mut output, r);
         turns -= 1;
     }
 }
 
 // What the arguments ask for.
-#[derive(Drop)]
+#[derive(Clone, Copy)]
 enum Mode {
     Plain,
     Trace,
@@ -82,13 +87,13 @@ fn is_word(word: &[u8], known: &[u8]) -> bool
     true
 }
 
-fn asked_mode() -> Mode {
-    let count = os::arg_count();
+fn asked_mode(rt: &HostRuntime) -> Mode {
+    let count = argument_count(rt);
     if count <= 1 {
         return Mode::Plain;
     }
     let mut word = [0u8; 64];
-    let n = os::arg(1, &mut word);
+    let n = argument(rt, 1, &mut word);
     if is_word(&word[..n], b"import") {
         return Mode::Import;
     }
@@ -117,20 +122,20 @@ fn asked_mode() -> Mode {
     }
 }
 
-fn main() {
-    let m = asked_mode();
+fn main(rt: HostRuntime) {
+    let m = asked_mode(&rt);
     match m {
-        Mode::Plain => run_all(Prints::Lines),
-        Mode::Trace => run_all(Prints::Trace),
-        Mode::Changes => run_all(Prints::Changes),
-        Mode::Why => run_all(Prints::Why),
-        Mode::Import => import_files(),
-        Mode::Total => total_blocks(),
-        Mode::Month => month_files(),
-        Mode::Check => check_files(),
+        Mode::Plain => run_all(&rt, Prints::Lines),
+        Mode::Trace => run_all(&rt, Prints::Trace),
+        Mode::Changes => run_all(&rt, Prints::Changes),
+        Mode::Why => run_all(&rt, Prints::Why),
+        Mode::Import => import_files(&rt),
+        Mode::Total => total_blocks(&rt),
+        Mode::Month => month_files(&rt),
+        Mode::Check => check_files(&rt),
         Mode::Unknown => {
-            io::write_all(
-                libc::STDERR_FILENO,
+            say(
+                &rt,
                 b"bench: unknown argument: 'trace', 'changes', 'why', 'import SETTINGS CAPTURE', 'month FILE..', 'total', 'check INPUT LOG', or none, with the records on standard input\n",
             );
         }

@@ -9,9 +9,9 @@ ghost use Rattle.bench.specs.Month.{Counted, added_of};
 
 use crate::facts::first;
 use crate::import::{complain, unreadable};
+use crate::outside::{Source, argument, argument_count, open, print, say};
 use crate::run::{Prints, Run, turn};
 use crate::total::print_block;
-use libc::{STDERR_FILENO, STDOUT_FILENO};
 use octets::field::u32_at;
 use sums::block::{empty, join};
 use sums::total::Total;
@@ -89,29 +89,29 @@ fn emptied(r: Run) -> Run
 }
 
 // A line on standard error where a file did not come to its end: the line `stop`, or a read that failed.
-fn tell(path: &[u8], over: bool, stopped: bool) {
+fn tell(rt: &HostRuntime, from: &Source, path: &[u8], over: bool, stopped: bool) {
     if stopped {
-        complain(path, b": stops at a fault; counted up to there\n");
+        complain(rt, path, b": stops at a fault; counted up to there\n");
         return;
     }
     if over {
         return;
     }
-    unreadable(path);
+    unreadable(rt, path, from.failure());
 }
 
 // A sign of life. There is no clock here: a line every 1,048,576 turns, which take about a second.
-fn alive(path: &[u8], turns: u64) {
+fn alive(rt: &HostRuntime, path: &[u8], turns: u64) {
     if turns % 1048576 == 0 {
-        io::write_all(STDERR_FILENO, b"bench: counting ");
-        io::write_all(STDERR_FILENO, path);
-        io::write_all(STDERR_FILENO, b"\n");
+        say(rt, b"bench: counting ");
+        say(rt, path);
+        say(rt, b"\n");
     }
 }
 
 // The block of a file that is open. A proved loop has to end, and nothing says that a file does: so the turns are counted down from a number that no
 // file uses up.
-fn count_file(fd: i32, path: &[u8]) -> [Total; 23]
+fn count_file(rt: &HostRuntime, from: &mut Source, path: &[u8]) -> [Total; 23]
     ensures { Counted result }
 {
     let mut table = [0u8; 1536];
@@ -123,53 +123,55 @@ fn count_file(fd: i32, path: &[u8]) -> [Total; 23]
     let mut turns = u64::MAX;
     while turns > 0 {
         if r.done {
-            tell(path, r.over, stopped);
+            tell(rt, from, path, r.over, stopped);
             return block;
         }
-        let next = turn(fd, &mut table, &mut input, &mut output, r);
+        let next = turn(from, &mut table, &mut input, &mut output, r);
         let more = added(block, next.out, &output);
         block = more;
         stopped = next.out == 5;
         r = emptied(next);
-        alive(path, turns);
+        alive(rt, path, turns);
         turns -= 1;
     }
     block
 }
 
 // One file: its name is printed, and its block is given. One that can't be opened counts as empty.
-fn named_block(path: &[u8]) -> [Total; 23] {
-    io::write_all(STDOUT_FILENO, b"file ");
-    io::write_all(STDOUT_FILENO, path);
-    io::write_all(STDOUT_FILENO, b"\n");
-    let fd = os::open_read(path);
-    if fd < 0 {
-        unreadable(path);
-        return empty();
+fn named_block(rt: &HostRuntime, path: &[u8]) -> [Total; 23] {
+    print(rt, b"file ");
+    print(rt, path);
+    print(rt, b"\n");
+    match open(rt, path) {
+        Ok(file) => {
+            let mut from = file;
+            count_file(rt, &mut from, path)
+        }
+        Err(e) => {
+            unreadable(rt, path, e);
+            empty()
+        }
     }
-    let block = count_file(fd, path);
-    libc::close(fd);
-    block
 }
 
 // The files that the arguments name, one behind the other, and all together.
-pub fn month_files() {
-    let count = os::arg_count();
+pub fn month_files(rt: &HostRuntime) {
+    let count = argument_count(rt);
     if count < 3 {
-        io::write_all(STDERR_FILENO, b"bench: month takes files: 'month FILE..'\n");
+        say(rt, b"bench: month takes files: 'month FILE..'\n");
         return;
     }
-    let mut path = io::buffer();
+    let mut path = [0u8; 4096];
     let mut all = empty();
     let mut i = 2;
     while i < count {
-        let n = os::arg(i, &mut path);
-        let block = named_block(&path[..n]);
-        print_block(block);
+        let n = argument(rt, i, &mut path);
+        let block = named_block(rt, &path[..n]);
+        print_block(rt, block);
         let more = join(all, block);
         all = more;
         i += 1;
     }
-    io::write_all(STDOUT_FILENO, b"all\n");
-    print_block(all);
+    print(rt, b"all\n");
+    print_block(rt, all);
 }

@@ -4,7 +4,7 @@ ghost use Rattle.bench.specs.Play.{number_after};
 ghost use Rattle.bench.specs.Import.{moved_of, due_of, paid_of, counted_of};
 
 // Times in microseconds: the latest seen, and that up to which clock steps were put out.
-#[derive(Drop)]
+#[derive(Clone, Copy)]
 pub struct Clock {
     pub started: bool,
     pub latest: u64,
@@ -12,7 +12,7 @@ pub struct Clock {
 }
 
 // Packets, and those left out among them.
-#[derive(Drop)]
+#[derive(Clone, Copy)]
 pub struct Counts {
     pub packets: u64,
     pub left: u64,

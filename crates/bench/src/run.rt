@@ -12,13 +12,13 @@ use crate::line::write_stop;
 use crate::passed::one_more;
 use crate::text::has_room;
 use crate::ways::{changed_event, explained, noted, plain, traced_event};
-use libc::STDOUT_FILENO;
 use peer::settings::Settings;
+use std::io::{Read, Write};
 use table::host::input::{Taken, body, record_length, take};
 use table::rules::event::Event;
 
 // What is printed of an event.
-#[derive(Drop)]
+#[derive(Clone, Copy)]
 pub enum Prints {
     // Its line.
     Lines,
@@ -34,7 +34,7 @@ pub enum Prints {
 
 // Where a run stands. Of the input buffer the octets from `at` to `have` are still to be taken; of the output buffer the first `out` are
 // lines still to be written.
-#[derive(Drop)]
+#[derive(Clone, Copy)]
 pub struct Run {
     pub settings: Settings,
     // Whether the settings fit: looked at once, where they are taken.
@@ -89,7 +89,7 @@ pub(crate) fn behind(at: usize, n: usize, have: usize) -> usize
 }
 
 // Writes out the lines of the buffer.
-fn flush(output: &[u8], r: Run) -> Run
+fn flush<W: Write>(to: &mut W, output: &[u8], r: Run) -> Run
     ensures { Flushed output.now r result }
 {
     let out = r.out;
@@ -99,7 +99,7 @@ fn flush(output: &[u8], r: Run) -> Run
         next.done = true;
         return next;
     }
-    let written = io::write_all(STDOUT_FILENO, &output[..out]);
+    let written = to.write_all(&output[..out]).is_ok();
     if written {
         return next;
     }
@@ -125,25 +125,25 @@ fn stop(output: &mut [u8], r: Run) -> Run
     finish(next)
 }
 
-// Reads on behind what is left, from a descriptor.
-fn refill(fd: i32, input: &mut [u8], r: Run) -> Run
+// Reads on behind what is left.
+fn refill<R: Read>(from: &mut R, input: &mut [u8], r: Run) -> Run
     ensures { Refilled input.old r input.new result }
 {
     let mut next = r;
     let left = shift(input, r.at, r.have);
-    let got = libc::read(fd, &mut input[left..]);
-    if got < 0 {
-        return finish(next);
+    match from.read(&mut input[left..]) {
+        Ok(n) => {
+            next.at = 0;
+            next.have = behind(left, n, input.len());
+            next.over = n == 0;
+            next
+        }
+        Err(_) => finish(next),
     }
-    let n = io::count(got, &input[left..]);
-    next.at = 0;
-    next.have = behind(left, n, input.len());
-    next.over = n == 0;
-    next
 }
 
 // A record that is not there whole: more is read, unless the input came to its end.
-fn cut(fd: i32, input: &mut [u8], output: &mut [u8], r: Run) -> Run
+fn cut<R: Read>(from: &mut R, input: &mut [u8], output: &mut [u8], r: Run) -> Run
     ensures { (ts : List ℕ) → Turned Cut ts input.old output.old r ts input.new output.new result }
 {
     if r.over {
@@ -153,7 +153,7 @@ fn cut(fd: i32, input: &mut [u8], output: &mut [u8], r: Run) -> Run
             stop(output, r)
         }
     } else {
-        refill(fd, input, r)
+        refill(from, input, r)
     }
 }
 
@@ -203,7 +203,13 @@ fn event(table: &mut [u8], output: &mut [u8], r: Run, e: Event, frame: &[u8], si
 }
 
 // One record, or more input.
-pub fn turn(fd: i32, table: &mut [u8], input: &mut [u8], output: &mut [u8], r: Run) -> Run
+pub fn turn<R: Read>(
+    from: &mut R,
+    table: &mut [u8],
+    input: &mut [u8],
+    output: &mut [u8],
+    r: Run,
+) -> Run
     ensures { TurnOf table.old input.old output.old r table.new input.new output.new result }
 {
     let at = r.at;
@@ -217,7 +223,7 @@ pub fn turn(fd: i32, table: &mut [u8], input: &mut [u8], output: &mut [u8], r: R
     let t = take(&input[at..have], r.first);
     match t {
         Taken::Fault => stop(output, r),
-        Taken::Cut => cut(fd, input, output, r),
+        Taken::Cut => cut(from, input, output, r),
         Taken::First(s) => begin(r, s, record_length(&input[at..have])),
         Taken::Next(e) => {
             let s = &input[at..have];
@@ -227,15 +233,22 @@ pub fn turn(fd: i32, table: &mut [u8], input: &mut [u8], output: &mut [u8], r: R
 }
 
 // The same; and where that is the end, or little room is left, the lines are written out. This alone writes, and `refill` alone reads.
-pub fn round(fd: i32, table: &mut [u8], input: &mut [u8], output: &mut [u8], r: Run) -> Run
+pub fn round<R: Read, W: Write>(
+    from: &mut R,
+    to: &mut W,
+    table: &mut [u8],
+    input: &mut [u8],
+    output: &mut [u8],
+    r: Run,
+) -> Run
     ensures { Rounded table.old input.old output.old r table.new input.new output.new result }
 {
-    let next = turn(fd, table, input, output, r);
+    let next = turn(from, table, input, output, r);
     if next.done {
-        return flush(output, next);
+        return flush(to, output, next);
     }
     if has_room(output.len(), next.out, 8192) {
         return next;
     }
-    flush(output, next)
+    flush(to, output, next)
 }

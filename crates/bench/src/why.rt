@@ -17,7 +17,7 @@ fn put_refusal(out: &mut [u8], at: usize, number: u8) -> usize
 }
 
 // The word of a reason, and a blank.
-fn put_reason(out: &mut [u8], at: usize, reason: Reason) -> usize
+pub(crate) fn put_reason(out: &mut [u8], at: usize, reason: Reason) -> usize
     requires { at + 16 ≤ length out.old }
     ensures { (result ≡ at + length (word_of reason)) × (Stored out.old at (word_of reason) out.new) }
 {

@@ -1,0 +1,13 @@
+-- `bench::facts::hold_of` meets its contract: by its test.
+-- Assumes nothing.
+use Rattle.bench.specs.Facts.{hold_of}
+use Rattle.octets.proofs.Branch.{tests}
+use Rattle.bench.proofs.facts.hold_of.Goals as goal
+
+pub returns-then-set : goal.returns-then-set
+unfolding hold_of
+returns-then-set c = search (tests, ← c.hold_set.ensures, c.if-set.true)
+
+pub returns : goal.returns
+unfolding hold_of
+returns c = search (tests, c.if-set.false)

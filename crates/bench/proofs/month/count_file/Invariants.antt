@@ -1,0 +1,14 @@
+-- `bench::month::count_file` meets its contract: its turns go one behind the other, and what each left is counted.
+-- Assumes nothing.
+use Rattle.bench.specs.Month.{Counting}
+use lib.ListN.{length}
+use mathlib.Core.Path.{◌≡◌}
+use Rattle.bench.proofs.month.count_file.Given as goal
+
+abbrev pub invariant-loop-turns : goal.invariant-loop-turns
+invariant-loop-turns l =
+    (length l.table ≡ 1536) × (length l.input ≡ 65536) × (length l.output ≡ 65536) × (Counting l.table l.input l.output (record { run = l.r; block = l.block; stopped = l.stopped }))
+
+abbrev pub decreases-loop-turns : goal.decreases-loop-turns
+decreases-loop-turns l =
+    l.turns
