@@ -8,12 +8,12 @@ DOCUMENTS = ("README.md", "docs/DECISIONS.md", "docs/FAULTS.md", "docs/PROMISES.
              "docs/READING.md", "docs/TRACE.md")
 LINK = re.compile(r"\]\((?!http)([^)#\s]*)(?:#([^)\s]+))?\)")
 HEADING = re.compile(r"^#+ (.+)$", re.MULTILINE)
-# A path, and perhaps a name of it: `crates/peer/specs/Filter.antt: passesOf`.
-PLACE = re.compile(r"((?:crates/)?(?:octets|peer|table|sums|rival|bench)/(?:specs|proofs|src)/"
+# A path, and perhaps a name of it: `crates/peer/specs/Filter.antt: passes_of`.
+PLACE = re.compile(r"((?:crates/)?(?:octets|peer|table|table_c|sums|rival|bench)/(?:specs|proofs|src)/"
                    r"[\w/]+\.(?:antt|rt))(?:: ([\w-]+))?")
 BETWEEN = (", ", " and ", ": ", ",\n", " to ")
 WORD = re.compile(r"[\w-]+")
-LIBRARY = ("getD",)
+LIBRARY = ("get_or",)
 FILE = re.compile(r"[\w./-]+/[\w.-]+\.(?:antt|rt|py|txt|md|svg|c|h)")
 CAMEL = re.compile(r"[a-z]+[a-z0-9]*(?:[A-Z][A-Za-z0-9]*)+")
 SNAKE = re.compile(r"[a-z]+(?:_[a-z0-9]+)+")
@@ -69,16 +69,19 @@ def leads_somewhere(text):
 def is_somewhere(text):
     """What is named like a definition, a theorem, or a function, an edit or a case, is one."""
     for token in names.TOKEN.findall(text):
-        if CAMEL.fullmatch(token) and token not in LIBRARY:
+        if token in LIBRARY:
+            continue
+        if CAMEL.fullmatch(token):
             if not any(names.defined_somewhere(token, folder) for folder in ("specs", "proofs")):
                 yield f"no definition is called {token}"
         elif KEBAB.fullmatch(token):
             if not any(names.defined_somewhere(token, folder) for folder in ("proofs", "specs")):
                 yield f"no theorem is called {token}"
         elif SNAKE.fullmatch(token) and not (
-                names.defined_somewhere(token, "src") or token in names.cases()
+                any(names.defined_somewhere(token, folder) for folder in ("src", "specs", "proofs"))
+                or token in names.cases() or token in names.CRATES
                 or any(edit.endswith(f"/{token}") for edit in names.edits())):
-            yield f"no function, edit or case is called {token}"
+            yield f"no function, definition, theorem, edit or case is called {token}"
 
 
 def promised(text):

@@ -1,14 +1,19 @@
-"""Where a name of the documents is defined: specs, proofs, code, stored cases, edits."""
+"""Where a name of the documents is defined: specs, proofs, code, stored cases, edits; and whether
+the prover has something to prove of a function."""
 
 import functools
 import pathlib
 import re
 
 ROOT = pathlib.Path(__file__).resolve().parents[2]
-CRATES = ("octets", "peer", "table", "sums", "rival", "bench")
+CRATES = ("octets", "peer", "table", "table_c", "sums", "rival", "bench")
 TOKEN = re.compile(r"`([^`\n]+)`")
 SIGNATURE = r"^\s*(?:(?:abbrev|unfoldable|pub)\s+)*(?:(?:record|data)\s+{0}(?=[\s(]|$)|{0}\s+:)"
 ITEM = r"\b(?:fn|struct|enum|const)\s+{0}\b"
+# A function up to its body, at the line's beginning or, a method, indented; a type's `impl`.
+HEAD = r"^{0}(?:[a-z(][^\n]*\s)?fn\s+{1}\b(?:(?!\bfn\b)[^{{])*"
+METHODS = r"^impl\s+{0}\s*\{{.*?^\}}"
+ANSWERS = ("Answers.antt", "Invariants.antt", "Proof.antt")
 
 
 @functools.lru_cache(maxsize=None)
@@ -31,6 +36,33 @@ def missing_names(path, names):
     if not path.is_file():
         return [f"there is no {shown(path)}"]
     return [f"{shown(path)} does not define {name}" for name in names if not defines(path, name)]
+
+
+def head_of(crate, place):
+    """The head, clauses too, of the function `module/../function` or `module/../Type/function`."""
+    *modules, function = place.split("/")
+    code, owner = ROOT / "crates" / crate / "src", None
+    if modules and modules[-1][:1].isupper():
+        owner = modules.pop()
+    paths = [code / f"{'/'.join(modules)}.rt"] if modules else [code / "lib.rt", code / "main.rt"]
+    for text in (text_of(path) for path in paths if path.is_file()):
+        parts = [text]
+        if owner:
+            methods = METHODS.format(re.escape(owner))
+            parts = re.findall(methods, text, re.MULTILINE | re.DOTALL)
+        for part in parts:
+            head = HEAD.format(r"[ \t]+" if owner else "", re.escape(function))
+            found = re.search(head, part, re.MULTILINE)
+            if found:
+                return found.group(0)
+    return None
+
+
+def is_proved(crate, place):
+    """Whether the function is there, with a contract or with answers of its own in proofs/."""
+    head, proof = head_of(crate, place), ROOT / "crates" / crate / "proofs" / place
+    return head is not None and (re.search(r"\b(?:requires|ensures)\b", head) is not None
+                                 or any((proof / name).is_file() for name in ANSWERS))
 
 
 @functools.lru_cache(maxsize=None)

@@ -2,9 +2,10 @@
 python3 -m tests.documents.trace_names.
 
 A row has a rule, what defines it and what exercises it; how it names things is said at the head of
-docs/TRACE.md. A name must be defined in its file, and a case, edit or test must be there. Every row
-names something in both columns or says `to come`; every case and every edit of the gate stands in
-some row.
+docs/TRACE.md. A name must be defined in its file, and a case, edit or test must be there. A proof is
+named by its function, which must stand there with a contract, or with answers in proofs/: the prover
+needs no file where it finds a proof itself. Every row names something in both columns or says
+`to come`; every case and every edit of the gate stands in some row.
 """
 
 import re
@@ -32,9 +33,8 @@ def named_in_file(word, token):
 
 
 def proof_there(token):
-    crate, _, rest = token.partition("/")
-    path = names.ROOT / "crates" / crate / "proofs" / rest / "Proof.antt"
-    return [] if path.is_file() else [f"there is no proof `{token}`"]
+    crate, _, place = token.partition("/")
+    return [] if names.is_proved(crate, place) else [f"there is no proof `{token}`"]
 
 
 def there(what, token, found):

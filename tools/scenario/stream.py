@@ -27,10 +27,10 @@ def ready(command):
     """A fault where our own program can't be run for want of the kit: not built, or built for another processor."""
     if command != BENCH or shutil.which("rt"):
         return
-    if not pathlib.Path(BENCH[0]).parent.joinpath("target/bin/bench").exists():
+    if not pathlib.Path(BENCH[0]).parent.joinpath("crates/bench/out/bench").exists():
         raise BenchFault(f"the bench program is not built yet, and {RT}; then './run' builds it")
     if platform.machine() != "x86_64":
-        raise BenchFault(f"{RT}: the bench program is x86-64's and runs under the kit's emulator on this processor")
+        raise BenchFault(f"{RT}: the bench program is x86-64's and runs under qemu-user, with the kit's C library, on this processor")
 
 
 class Child:
