@@ -9,10 +9,10 @@ ROOT = pathlib.Path(__file__).resolve().parents[2]
 CRATES = ("octets", "peer", "table", "table_c", "sums", "rival", "bench")
 TOKEN = re.compile(r"`([^`\n]+)`")
 SIGNATURE = r"^\s*(?:(?:abbrev|unfoldable|pub)\s+)*(?:(?:record|data)\s+{0}(?=[\s(]|$)|{0}\s+:)"
-ITEM = r"\b(?:fn|struct|enum|const)\s+{0}\b"
-# A function up to its body, at the line's beginning or, a method, indented; a type's `impl`.
+ITEM = r"\b(?:fn|struct|enum|trait|const)\s+{0}\b"
+# A function up to its body, at the line's beginning or, a method, indented; a type's `impl`, or a trait.
 HEAD = r"^{0}(?:[a-z(][^\n]*\s)?fn\s+{1}\b(?:(?!\bfn\b)[^{{])*"
-METHODS = r"^impl\s+{0}\s*\{{.*?^\}}"
+METHODS = r"^(?:impl|(?:pub(?:\(crate\))?\s+)?trait)\s+{0}\b[^\n{{]*\{{.*?^\}}"
 ANSWERS = ("Answers.antt", "Invariants.antt", "Proof.antt")
 
 

@@ -17,13 +17,12 @@ use Rattle.sums.specs.Reader.{heading_of, line_from, next_of, number_blank, numb
 use Rattle.sums.specs.Sums as sums
 use Rattle.sums.specs.Sums.{held}
 use Rattle.sums.specs.Token.{no_token, word_with, seen_with, digit_fits, value_with, token_with, token_of, is_packed, number_of}
-use Rattle.sums.specs.declared.block.Mean.{Mean}
-use Rattle.sums.specs.declared.block.Mean.TheVariants as mean
 use Rattle.sums.specs.declared.reader.Reader.{Reader}
 use Rattle.sums.specs.declared.reader.Stage.TheVariants as stage
-use Rattle.sums.specs.declared.token.Number.TheVariants.{Of}
+use Rattle.std.specs.Prelude.{Option, Some, None}
+use Rattle.sums.specs.declared.fraction.Fraction.{Fraction}
 use Rattle.sums.specs.declared.token.Token.{Token}
-use Rattle.sums.specs.declared.total.Total.{Total}
+use Rattle.sums.specs.Sums.{Total}
 use Rattle.sums.proofs.Joining.{place_alone}
 use Rattle.sums.proofs.Placewise.{placewise_step, placewise_end}
 use Rattle.sums.proofs.Reading.{added_pieces_lem, read_pieces_lem}
@@ -60,7 +59,7 @@ goes_plain b p l t Plain.none = record { added = refl; read = refl }
 goes_plain b p l t (Plain.next {x = x} e f more) =
     let g = goes_plain b p l (token_with t x) more in record { added = rw (e, f) g.added; read = rw (e, f) g.read }
 
-module _ (b : List Total) (p l : ℕ) (t : Token) (n : Total) (e : number_of t ≡ Of n) (h : p < 23) where
+module _ (b : List Total) (p l : ℕ) (t : Token) (n : Total) (e : number_of t ≡ Some n) (h : p < 23) where
   after : place_after p ≡ p + 1
   unfolding place_after
   after = rw (lt-ltb p 23 h)
@@ -104,7 +103,7 @@ module _ (ns : List ℕ) where
   abbrev one : ℕ → Total
   one p = get_or (block_of ns) p sums.zero
 
-  known : (p : ℕ) → number_of (token_of no_token (spell (one p))) ≡ Of (one p)
+  known : (p : ℕ) → number_of (token_of no_token (spell (one p))) ≡ Some (one p)
   known p = rw (place_alone ns p) (read_number (get_or ns p 0))
 
   goes_number : (c : List Total) (p l : ℕ) → Goes c (number_at p l no_token) (spell (one p)) c (number_at p l (token_of no_token (spell (one p))))
@@ -185,16 +184,16 @@ pub goes_over : (c : List Total) (p l : ℕ) {xs : List ℕ} → NoEnd xs → Go
 unfolding added_from read_from added_with next_of ends_number
 goes_over c p l none_in = goes_then (goes_through c p l none_in) (record { added = refl; read = refl })
 
-mean_plain : (m : Mean) → Plain (mean_number m)
+mean_plain : (m : Option Fraction) → Plain (mean_number m)
 unfolding fraction_text
-mean_plain (mean.Exact f) = plain_append (plain_append (tens_plain 20 f.top) (Plain.next refl refl Plain.none)) (tens_plain 20 f.bottom)
-mean_plain mean.Over = Plain.next refl refl (Plain.next refl refl (Plain.next refl refl (Plain.next refl refl Plain.none)))
+mean_plain (Some f) = plain_append (plain_append (tens_plain 20 f.top) (Plain.next refl refl Plain.none)) (tens_plain 20 f.bottom)
+mean_plain None = Plain.next refl refl (Plain.next refl refl (Plain.next refl refl (Plain.next refl refl Plain.none)))
 
 mean_word_lem : (c : List Total) (l : ℕ) → Goes c (line_from 23 l) (mean_word ++ (32 ∷ [])) c (rest_at 23 l)
 unfolding added_from read_from added_with next_of ends_number word_blank opens heading_of is_packed token_with word_with seen_with value_with digit_fits
 mean_word_lem c l = record { added = refl; read = refl }
 
-goes_mean : (m : Mean) (c : List Total) (l : ℕ) → Goes c (line_from 23 l) (mean_text m) c (line_from 0 (line_after l))
+goes_mean : (m : Option Fraction) (c : List Total) (l : ℕ) → Goes c (line_from 23 l) (mean_text m) c (line_from 0 (line_after l))
 unfolding mean_text
 goes_mean m c l =
     rw (append_assoc (mean_word ++ (32 ∷ [])) (mean_number m) (10 ∷ []))

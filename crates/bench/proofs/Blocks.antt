@@ -7,18 +7,16 @@ use mathlib.Core.Path.{◌≡◌, refl}
 use mathlib.Core.List.{List, [], ◌∷◌, ◌++◌}
 use lib.ListN.{get_or, length, length-append}
 use Rattle.sums.specs.Sums as sums
-use Rattle.sums.specs.declared.block.Mean.{Mean}
-use Rattle.sums.specs.declared.block.Mean.TheVariants as mean
 use Rattle.sums.specs.declared.fraction.Fraction.{Fraction}
-use Rattle.sums.specs.declared.total.Total.{Total}
-use Rattle.sums.specs.declared.total.Total.TheVariants.{Sum, Over}
+use Rattle.sums.specs.Sums.{Total}
+use Rattle.std.specs.Prelude.{Option, Some, None}
 use Rattle.bench.specs.Block.{number_text, numbers_from, row_text, fraction_text, mean_number, mean_text}
 use Rattle.bench.specs.Output.{Output, Line, put_of, put_all}
 use Rattle.bench.proofs.Digits.{tens_length}
 
 pub number_length : (t : Total) → length (number_text t) ≤ 21
-number_length (Sum n) = omega (arith, tens_length 20 n)
-number_length Over = omega arith
+number_length (Some n) = omega (arith, tens_length 20 n)
+number_length None = omega arith
 
 pub numbers_none : (b : List Total) (first : ℕ) → numbers_from b first 0 ≡ []
 unfolding numbers_from
@@ -44,11 +42,11 @@ pub fraction_length : (f : Fraction) → length (fraction_text f) ≤ 41
 unfolding fraction_text
 fraction_length f = simp length-append (omega (arith, tens_length 20 f.top, tens_length 20 f.bottom))
 
-pub mean_length : (m : Mean) → length (mean_number m) ≤ 41
-mean_length (mean.Exact f) = fraction_length f
-mean_length mean.Over = omega arith
+pub mean_length : (m : Option Fraction) → length (mean_number m) ≤ 41
+mean_length (Some f) = fraction_length f
+mean_length None = omega arith
 
-pub mean_line_length : (m : Mean) → length (mean_text m) ≤ 256
+pub mean_line_length : (m : Option Fraction) → length (mean_text m) ≤ 256
 unfolding mean_text
 mean_line_length m = simp length-append (omega (arith, mean_length m))
 

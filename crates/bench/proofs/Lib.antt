@@ -42,6 +42,5 @@ pub mod Whole
 pub mod WholeExample
 pub mod Checks
 pub mod CheckExample
-pub mod Words
 pub mod Yard
 pub mod YardExample

@@ -35,10 +35,6 @@ word_length ClassFilter = omega arith
 word_length GroupRule = omega arith
 word_length NothingToDo = omega arith
 
-pub reasoned_length : (r : Reason) (v : ℕ) → length (reasoned_text r v) ≤ 35
-unfolding reasoned_text
-reasoned_length r v = simp length-append (omega (arith, word_length r, tens_length 20 v))
-
 -- both texts end as one function puts them
 pub why_is : (n : ℕ) (r : Reason) (v : ℕ) → why_text n r v ≡ field_of 20 n ++ reasoned_text r v
 unfolding why_text reasoned_text

@@ -16,7 +16,7 @@ use Rattle.peer.specs.declared.record.Record.{Record}
 use Rattle.sums.proofs.Joining.{tally_nothing}
 use Rattle.sums.specs.Block.{block_of, empty_of, join_of, nothing, tally}
 use Rattle.sums.specs.Sums.{held}
-use Rattle.sums.specs.declared.total.Total.{Total}
+use Rattle.sums.specs.Sums.{Total}
 use Rattle.table.specs.Rows.{records_of}
 use Rattle.table.specs.declared.rules.event.Event.{Event}
 use Rattle.bench.specs.Facts.{facts_of, numbers_in}

@@ -1,5 +1,6 @@
 -- The octets of events, counted one behind the other, are the numbers of the events.
 -- Assumes nothing.
+use Rattle.std.specs.Prelude.{Option, Some, None}
 use Prim.Native.Nat.{ℕ, zero, suc, ◌*◌, ◌^◌, ◌≤◌, ◌<◌}
 use mathlib.Core.Path.{◌≡◌, refl, sym, ap, ◌∙◌}
 use mathlib.Core.Bool.{Bool, true}
@@ -13,14 +14,12 @@ use Rattle.octets.proofs.Branch.{and_left, and_right, pick_both}
 use Rattle.octets.proofs.Le.{le_octets, length_octets}
 use Rattle.octets.specs.Element.{comeback_of}
 use Rattle.octets.specs.Field.{all_octets, field, le, octets}
-use Rattle.octets.specs.declared.element.Comeback.{Comeback}
-use Rattle.octets.specs.declared.element.Comeback.TheVariants.{Absent, Given}
 use Rattle.peer.specs.Association.{comeback_hold}
 use Rattle.peer.specs.declared.record.Record.{Record}
 use Rattle.peer.specs.declared.settings.Settings.{Settings}
 use Rattle.sums.proofs.Joining.{block_both, both_assoc, both_comm}
 use Rattle.sums.specs.Block.{block_of, both_of, join_of, nothing, tally}
-use Rattle.sums.specs.declared.total.Total.{Total}
+use Rattle.sums.specs.Sums.{Total}
 use Rattle.table.specs.declared.rules.answer.Answer.{Answer}
 use Rattle.table.specs.declared.rules.event.Event.{Event}
 use Rattle.bench.specs.Facts.{answer_numbers, facts_of, front_numbers, hold_of, hold_set, is_parted, numbers_in, numbers_of, ones_from, timeout_numbers}
@@ -44,9 +43,9 @@ numbers_back a dropped reports set hold h =
 abbrev IsSmall : ℕ → Type 0
 IsSmall n = n < 2 ^ 32
 
-comeback_small : (xs : List ℕ) → all_octets xs ≡ true → (c : Comeback) → comeback_of xs ≡ c → IsSmall (comeback_hold c)
-comeback_small xs h (Given tu) e = comeback_below xs h tu e
-comeback_small xs h Absent e = omega arith
+comeback_small : (xs : List ℕ) → all_octets xs ≡ true → (c : Option ℕ) → comeback_of xs ≡ c → IsSmall (comeback_hold c)
+comeback_small xs h (Some tu) e = comeback_below xs h tu e
+comeback_small xs h None e = omega arith
 
 hold_small : (set : Bool) (xs : List ℕ) (a : Answer) → all_octets xs ≡ true → IsSmall (hold_of set xs a)
 unfolding hold_of hold_set

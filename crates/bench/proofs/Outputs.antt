@@ -23,15 +23,7 @@ pub put_none : (v : Line) (o : Output) → leb (o.filled + v.room) (length o.oct
 unfolding put_of
 put_none v o e = rw e
 
--- no line, one line, and one list of lines behind another
-pub all_none : (o : Output) → put_all [] o ≡ o
-unfolding put_all
-all_none o = refl
-
-pub all_one : (v : Line) (o : Output) → put_all (v ∷ []) o ≡ put_of v o
-unfolding put_all
-all_one v o = refl
-
+-- one list of lines behind another
 pub all_behind : (vs ws : List Line) (o : Output) → put_all (vs ++ ws) o ≡ put_all ws (put_all vs o)
 unfolding put_all
 all_behind [] ws o = refl

@@ -10,10 +10,9 @@ use borrow.Author.Tests.{ne_eqb, lt-ltb, le-leb, ltb-true, ltb-false}
 use Rattle.octets.proofs.Branch.{by_bool, pick_both, pick_by}
 use Rattle.sums.specs.Sums.{held}
 use Rattle.sums.specs.Token.{no_token, word_with, seen_with, digit_fits, value_with, token_with, token_of, is_packed, over_word, number_of}
-use Rattle.sums.specs.declared.token.Number.TheVariants.{Of}
 use Rattle.sums.specs.declared.token.Token.{Token}
-use Rattle.sums.specs.declared.total.Total.{Total}
-use Rattle.sums.specs.declared.total.Total.TheVariants.{Sum, Over}
+use Rattle.sums.specs.Sums.{Total}
+use Rattle.std.specs.Prelude.{Some, None}
 use Rattle.sums.proofs.Totals.{held_fits, held_over}
 use native.Mathlib.Nat.{pow-suc}
 use Rattle.bench.specs.Block.{number_text}
@@ -38,16 +37,16 @@ tens_plain (suc k) n = pick_both Plain (ltb n 10) (plain_digit n) (plain_append 
 
 -- A number without the blank before it.
 abbrev pub spell : Total → List ℕ
-spell (Sum n) = tens 20 n
-spell Over = over_word
+spell (Some n) = tens 20 n
+spell None = over_word
 
 pub spelled : (t : Total) → number_text t ≡ 32 ∷ spell t
-spelled (Sum n) = refl
-spelled Over = refl
+spelled (Some n) = refl
+spelled None = refl
 
 pub spell_plain : (t : Total) → Plain (spell t)
-spell_plain (Sum n) = tens_plain 20 n
-spell_plain Over = next refl refl (next refl refl (next refl refl (next refl refl none)))
+spell_plain (Some n) = tens_plain 20 n
+spell_plain None = next refl refl (next refl refl (next refl refl (next refl refl none)))
 
 token_append : (t : Token) (xs ys : List ℕ) → token_of t (xs ++ ys) ≡ token_of (token_of t xs) ys
 token_append t [] ys = refl
@@ -55,8 +54,7 @@ token_append t (x ∷ xs) ys = token_append (token_with t x) xs ys
 
 -- What a token says of a number.
 record Says (t : Token) (n : ℕ) : Type 0 where
-  value : t.value ≡ n
-  fits : t.fits ≡ true
+  value : t.value ≡ Some n
   some : 0 < t.seen
 
 fits_digit : (m d : ℕ) → d < 10 → m * 10 + d < 2 ^ 64 → digit_fits m (48 + d) ≡ true
@@ -69,12 +67,11 @@ seen_some : (n : ℕ) → 0 < seen_with n
 unfolding seen_with
 seen_some n = by_bool (ltb n 9) (λ e. rw e (omega arith)) (λ e. rw e (omega (arith, ltb-false n 9 e)))
 
-digit_more : (t : Token) (m d : ℕ) → t.value ≡ m → t.fits ≡ true → d < 10 → m * 10 + d < 2 ^ 64 → Says (token_with t (48 + d)) (m * 10 + d)
+digit_more : (t : Token) (m d : ℕ) → t.value ≡ Some m → d < 10 → m * 10 + d < 2 ^ 64 → Says (token_with t (48 + d)) (m * 10 + d)
 unfolding token_with value_with
-digit_more t m d e f h g =
+digit_more t m d e h g =
     record {
-      value = rw (e, fits_digit m d h g) (omega arith);
-      fits = rw (e, f, fits_digit m d h g) refl;
+      value = rw (e, fits_digit m d h g) (ap Some (omega arith));
       some = seen_some t.seen;
     }
 
@@ -83,11 +80,11 @@ last_digit : (k n : ℕ) → Says (token_of no_token (tens k (n / 10))) (n / 10)
 last_digit k n s g =
     rw (token_append no_token (tens k (n / 10)) ((48 + n % 10) ∷ []))
     (subst (Says (token_with (token_of no_token (tens k (n / 10))) (48 + n % 10))) (omega arith)
-    (digit_more (token_of no_token (tens k (n / 10))) (n / 10) (n % 10) s.value s.fits (omega arith) (omega (arith, g))))
+    (digit_more (token_of no_token (tens k (n / 10))) (n / 10) (n % 10) s.value (omega arith) (omega (arith, g))))
 
 only_digit : (n : ℕ) → n < 10 → Says (token_of no_token ((48 + n) ∷ [])) n
 only_digit n h =
-    subst (Says (token_with no_token (48 + n))) (omega arith) (digit_more no_token 0 n refl refl h (omega (arith, h)))
+    subst (Says (token_with no_token (48 + n))) (omega arith) (digit_more no_token 0 n refl h (omega (arith, h)))
 
 tens_says : (k n : ℕ) → n < 10 ^ suc k → n < 2 ^ 64 → Says (token_of no_token (tens (suc k) n)) n
 unfolding tens
@@ -97,16 +94,16 @@ tens_says (suc k) n h g =
     (λ e. only_digit n (ltb-true n 10 e))
     (λ e. last_digit (suc k) n (tens_says k (n / 10) (omega (arith, pow-suc 10 (suc k), h)) (omega (arith, g))) g)
 
-number_says : (t : Token) (n : ℕ) → Says t n → number_of t ≡ Of (Sum n)
+number_says : (t : Token) (n : ℕ) → Says t n → number_of t ≡ Some (Some n)
 unfolding number_of
-number_says t n s = rw (ne_eqb t.seen 0 (λ e. omega (arith, e, s.some)), s.fits) (ap (λ (m : ℕ). Of (Sum m)) s.value)
+number_says t n s = rw (ne_eqb t.seen 0 (λ e. omega (arith, e, s.some)), s.value)
 
-over_says : number_of (token_of no_token over_word) ≡ Of Over
+over_says : number_of (token_of no_token over_word) ≡ Some None
 unfolding number_of token_with word_with seen_with value_with digit_fits is_packed
 over_says = refl
 
 -- What was printed of a number that 64 bits hold, or of one that they don't, is read as that.
-pub read_number : (m : ℕ) → number_of (token_of no_token (spell (held m))) ≡ Of (held m)
+pub read_number : (m : ℕ) → number_of (token_of no_token (spell (held m))) ≡ Some (held m)
 read_number m =
     by_bool (ltb m (2 ^ 64))
     (λ e. rw (held_fits m (ltb-true m (2 ^ 64) e)) (number_says (token_of no_token (tens 20 m)) m (tens_says 19 m (omega (arith, ltb-true m (2 ^ 64) e)) (ltb-true m (2 ^ 64) e))))

@@ -39,8 +39,7 @@ use Rattle.table.specs.declared.rules.event.Event.{Event}
 use Rattle.table.specs.declared.rules.event.Event.TheVariants as event
 use Rattle.table.specs.declared.rules.read.Reading.{Reading}
 use Rattle.table.specs.declared.rules.read.Reading.TheVariants.{Refused, Discarded, Admitted, From}
-use Rattle.table.specs.declared.rules.seat.Found.{Found}
-use Rattle.table.specs.declared.rules.seat.Found.TheVariants.{Nothing, At}
+use Rattle.std.specs.Prelude.{Option, Some, None}
 use Rattle.bench.specs.Play.{zeros}
 
 module _ (t : List Record) where
@@ -63,14 +62,14 @@ module _ (t : List Record) where
   unfolding stranger_of
   stranger_same turn = refl
 
-  newcomer_same : (free : Found) (turn full : Turn) → Same (newcomer_of t free turn full)
+  newcomer_same : (free : Option ℕ) (turn full : Turn) → Same (newcomer_of t free turn full)
   unfolding newcomer_of
-  newcomer_same Nothing turn full = pick_both Same (starts_of turn) (stranger_same full) (stranger_same turn)
-  newcomer_same (At i) turn full = pick_both Same (starts_of turn) (seated_same i turn) (stranger_same turn)
+  newcomer_same None turn full = pick_both Same (starts_of turn) (stranger_same full) (stranger_same turn)
+  newcomer_same (Some i) turn full = pick_both Same (starts_of turn) (seated_same i turn) (stranger_same turn)
 
-  turn_same : (at free : Found) (turn full : Turn) → Same (turn_in t at free turn full)
-  turn_same Nothing free turn full = newcomer_same free turn full
-  turn_same (At i) free turn full = seated_same i turn
+  turn_same : (at free : Option ℕ) (turn full : Turn) → Same (turn_in t at free turn full)
+  turn_same None free turn full = newcomer_same free turn full
+  turn_same (Some i) free turn full = seated_same i turn
 
   unless_same : (n : ℕ) (m : Met) → Same m → Same (unless n t m)
   unfolding unless

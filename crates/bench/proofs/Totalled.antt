@@ -12,8 +12,8 @@ use Rattle.sums.specs.Place.{line_after}
 use Rattle.sums.specs.Reader.{all_word, file_word, heading_of, line_from, next_of, start_of, word_blank, word_line}
 use Rattle.sums.specs.Sums.{held}
 use Rattle.sums.specs.Token.{digit_fits, is_packed, seen_with, token_with, value_with, word_with}
-use Rattle.sums.specs.declared.total.Total.{Total}
-use Rattle.sums.specs.declared.total.Total.TheVariants.{Sum, Over}
+use Rattle.sums.specs.Sums.{Total}
+use Rattle.std.specs.Prelude.{Some, None}
 use Rattle.sums.proofs.Counting.{one_by_one}
 use Rattle.sums.proofs.Joining.{tally_order}
 use Rattle.sums.proofs.Placewise.{placewise_length}
@@ -89,10 +89,10 @@ printed : (m n : ℕ) → Printed (map (tally counts) ((m ∷ []) ∷ (n ∷ [])
 unfolding tally placewise
 printed m n = more bare refl (more all refl none)
 
-in_all : block_of (tally counts ((2 ^ 64 - 1) ∷ 1 ∷ [])) ≡ set (set empty_of 0 (Sum 2)) 20 Over
+in_all : block_of (tally counts ((2 ^ 64 - 1) ∷ 1 ∷ [])) ≡ set (set empty_of 0 (Some 2)) 20 None
 unfolding tally placewise both_at held
 in_all = refl
 
 over_alone : added_from empty_of start_of (block_text (block_of (tally counts ((2 ^ 64 - 1) ∷ []))) ++ ((all_word ++ (10 ∷ [])) ++ (block_text (block_of (tally counts (1 ∷ []))) ++ [])))
-    ≡ set (set empty_of 0 (Sum 2)) 20 Over
+    ≡ set (set empty_of 0 (Some 2)) 20 None
 over_alone = total_of_files counts (((2 ^ 64 - 1) ∷ []) ∷ (1 ∷ []) ∷ []) (printed (2 ^ 64 - 1) 1) ∙ in_all

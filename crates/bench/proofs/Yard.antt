@@ -80,11 +80,6 @@ unfolding latest_from
 latest_least l [] = omega arith
 latest_least l (p ∷ ps) = omega (arith, later_least l p.time, latest_least (later_of l p.time) ps)
 
--- seen by a clock that was started
-moved_on : (c : Clock) (t : ℕ) → c.started ≡ true → moved_of c t ≡ record { started = true; latest = later_of c.latest t; since = c.since }
-unfolding moved_of
-moved_on c t s = rw s
-
 -- Less than one TU is owed once what is due is written.
 pub owed_little : (c : Clock) → Right c → (paid_of c (due_of c)).latest - (paid_of c (due_of c)).since < 1024
 unfolding paid_of due_of
@@ -130,9 +125,6 @@ pub kept_and_left : (ps : List Packet) → length (kept_in ps) + left_in ps ≡ 
 unfolding kept_in left_in
 kept_and_left [] = refl
 kept_and_left (p ∷ ps) = let i = kept_and_left ps in by_bool (kept_of p) (λ e. rw e (omega arith)) (λ e. rw e (omega arith))
-
-left_least : (ps : List Packet) → left_in ps ≤ length ps
-left_least ps = omega (arith, kept_and_left ps)
 
 after_one : (n : ℕ) → n < 18446744073709551615 → number_after n ≡ n + 1
 unfolding number_after

@@ -1,23 +1,20 @@
 -- 02, K12: a block of the month as it is printed, one line each: `events N`, `refusals` with nine numbers (1 to 9), `discards` with three (no class, class
 -- filter, group rule), `joins N`, `leaves N`, `timeouts` with five (kinds 1 to 5), `holds N`, `longest N`, `total N`, `mean A/B`.
 -- Assumes nothing.
-use Rattle.std.specs.Prelude.{ℕ, zero, suc, ◌+◌, List, [], ◌∷◌, ◌++◌, get_or}
+use Rattle.std.specs.Prelude.{ℕ, zero, suc, ◌+◌, List, [], ◌∷◌, ◌++◌, get_or, Option, Some, None}
 use Rattle.sums.specs.Block.{mean_of}
 use Rattle.sums.specs.Place.{events_word, refusals_word, discards_word, joins_word, leaves_word, timeouts_word, holds_word, longest_word, total_word, mean_word}
 use Rattle.sums.specs.Sums as sums
 use Rattle.sums.specs.Token.{over_word}
-use Rattle.sums.specs.declared.block.Mean.{Mean}
-use Rattle.sums.specs.declared.block.Mean.TheVariants as mean
 use Rattle.sums.specs.declared.fraction.Fraction.{Fraction}
-use Rattle.sums.specs.declared.total.Total.{Total}
-use Rattle.sums.specs.declared.total.Total.TheVariants.{Sum, Over}
+use Rattle.sums.specs.Sums.{Total}
 use Rattle.bench.specs.Output.{Line, said}
 use Rattle.bench.specs.Text.{tens}
 
 -- A blank, and a number in decimal; "A total that would pass 64 bits prints `over` in its own place".
 abbrev pub number_text : Total → List ℕ
-number_text (Sum n) = 32 ∷ tens 20 n
-number_text Over = 32 ∷ over_word
+number_text (Some n) = 32 ∷ tens 20 n
+number_text None = 32 ∷ over_word
 
 -- So many numbers of a block, from a place on.
 unfoldable pub numbers_from : List Total → ℕ → ℕ → List ℕ
@@ -35,14 +32,14 @@ row_line word b first count = record { room = 256; text = row_text word b first 
 unfoldable pub fraction_text : Fraction → List ℕ
 fraction_text f = tens 20 f.top ++ (47 ∷ []) ++ tens 20 f.bottom
 
-abbrev pub mean_number : Mean → List ℕ
-mean_number (mean.Exact f) = fraction_text f
-mean_number mean.Over = over_word
+abbrev pub mean_number : Option Fraction → List ℕ
+mean_number (Some f) = fraction_text f
+mean_number None = over_word
 
-unfoldable pub mean_text : Mean → List ℕ
+unfoldable pub mean_text : Option Fraction → List ℕ
 mean_text m = mean_word ++ (32 ∷ []) ++ mean_number m ++ (10 ∷ [])
 
-abbrev pub mean_line : Mean → Line
+abbrev pub mean_line : Option Fraction → Line
 mean_line m = record { room = 256; text = mean_text m }
 
 -- The ten lines.

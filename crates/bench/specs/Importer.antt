@@ -5,6 +5,8 @@ use Rattle.octets.specs.Pick.{pick}
 use Rattle.octets.specs.Stored.{Stored}
 use Rattle.bench.specs.Capture.{big_of, numbered, linked, keeps_of, time_at, captured_at, original_at, walk_from}
 use Rattle.bench.specs.Import.{Item, step, frame, rest_of, written_of, moved_of, due_of, paid_of, counted_of, Imported, stops_at, walked_of, file_of, unstarted, none}
+use Rattle.bench.specs.declared.importer.Refusal.{Refusal}
+use Rattle.bench.specs.declared.importer.Refusal.TheVariants.{OtherNumber, OtherLink, CutShort}
 use Rattle.bench.specs.declared.importer.Stage.{Stage}
 use Rattle.bench.specs.declared.importer.Stage.TheVariants.{Head, Between, Passing, Over}
 use Rattle.bench.specs.declared.passed.Clock.{Clock}
@@ -19,6 +21,12 @@ state_of g big c k = record { stage = g; big = big; clock = c; counts = k }
 abbrev pub start_of : State
 start_of = state_of Head false unstarted none
 
+-- "Refusals of the importer: 3 cut header or packet, else 1 other number, 2 other link type". 0 is none.
+abbrev pub refusal_number : Refusal → ℕ
+refusal_number OtherNumber = 1
+refusal_number OtherLink = 2
+refusal_number CutShort = 3
+
 -- What is still to come of the octets not yet taken, by the stage: before the file's header, between packets, within a packet that is left out
 -- with n octets still to pass, and after a refusal.
 abbrev pub coming_at : Stage → State → List ℕ → Imported
@@ -26,7 +34,7 @@ coming_at Head s xs = file_of s.clock s.counts xs
 coming_at Between s xs = walked_of s.clock s.counts (walk_from s.big 0 xs)
 coming_at (Passing n) s xs =
     pick (leb n (length xs)) (walked_of s.clock (counted_of false s.counts) (walk_from s.big n xs)) (stops_at s.counts 3)
-coming_at (Over r) s xs = stops_at s.counts r
+coming_at (Over r) s xs = stops_at s.counts (refusal_number r)
 
 abbrev pub coming_from : State → List ℕ → Imported
 coming_from s xs = coming_at s.stage s xs
@@ -51,8 +59,8 @@ wanting s n = record { after = s; taken = n; items = []; wants = true }
 unfoldable pub head_front : State → List ℕ → Front
 head_front s xs =
     pick (ltb (length xs) 24) (wanting s 0)
-    (pick (not (numbered xs)) (ahead (state_of (Over 1) false s.clock s.counts) 24 [])
-    (pick (not (linked xs)) (ahead (state_of (Over 2) false s.clock s.counts) 24 [])
+    (pick (not (numbered xs)) (ahead (state_of (Over OtherNumber) false s.clock s.counts) 24 [])
+    (pick (not (linked xs)) (ahead (state_of (Over OtherLink) false s.clock s.counts) 24 [])
     (ahead (state_of Between (big_of xs) s.clock s.counts) 24 [])))
 
 -- A packet that is kept, once it is there whole. Over 65,535 TU due: one step of them, and the packet stays at the front, so a gap of any length
@@ -93,7 +101,7 @@ unfoldable pub end_at : Stage → ℕ → ℕ
 end_at Head n = 3
 end_at Between n = pick (eqb n 0) 0 3
 end_at (Passing k) n = 3
-end_at (Over r) n = r
+end_at (Over r) n = refusal_number r
 
 -- Whether nothing more of the file is looked at.
 unfoldable pub is_over : Stage → Bool

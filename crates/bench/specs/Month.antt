@@ -4,7 +4,7 @@
 use Rattle.std.specs.Prelude.{ℕ, zero, suc, ◌+◌, ◌*◌, Bool, true, false, List, ◌≡◌, eqb, drop, length, take}
 use Rattle.octets.specs.Pick.{pick}
 use Rattle.sums.specs.Block.{block_of, empty_of, join_of, tally}
-use Rattle.sums.specs.declared.total.Total.{Total}
+use Rattle.sums.specs.Sums.{Total}
 use Rattle.bench.specs.Facts.{numbers_in, numbers_of}
 use Rattle.bench.specs.Plays.{Play, plays_of}
 use Rattle.bench.specs.Printed.{counted}

@@ -5,7 +5,7 @@ ghost use Rattle.bench.specs.Block.{block_lines, event_lines, fraction_text, hol
 ghost use Rattle.bench.specs.Output.{up_to, put_all, put_of};
 
 use crate::text::{has_room, put_octet, put_tens, put_word};
-use sums::block::{Mean, look, mean_hold};
+use sums::block::{look, mean_hold};
 use sums::fraction::Fraction;
 use sums::total::Total;
 
@@ -15,15 +15,15 @@ fn put_number(out: &mut [u8], at: usize, t: Total) -> usize
     ensures { (result ≡ at + length (number_text t)) × (Stored out.old at (number_text t) out.new) }
 {
     match t {
-        Total::Sum(n) => {
+        Some(n) => {
             put_octet(out, at, b' ');
-            return put_tens(out, at + 1, n, 20);
+            put_tens(out, at + 1, n, 20)
         }
-        Total::Over => put_word(out, at, b" over"),
+        None => put_word(out, at, b" over"),
     }
 }
 
-// So many numbers of a block, from a place on.
+// So many numbers of a block, from a place on. A recursion as `numbers_from` is: a `for` would need the same definition from the other end.
 fn put_numbers(out: &mut [u8], at: usize, b: [Total; 23], first: usize, count: usize) -> usize
     requires count_in_bounds { at + 21 * count ≤ length out.old }
     requires count_bound { first + count ≤ 23 }
@@ -32,8 +32,7 @@ fn put_numbers(out: &mut [u8], at: usize, b: [Total; 23], first: usize, count: u
     if count == 0 {
         return at;
     }
-    let t = look(b, first);
-    let next = put_number(out, at, t);
+    let next = put_number(out, at, look(b, first));
     put_numbers(out, next, b, first + 1, count - 1)
 }
 
@@ -72,7 +71,7 @@ fn write_row(
     requires count_bound_2 { count ≤ 9 }
     ensures { up_to out.new result ≡ put_of (row_line word.now b first count) (up_to out.old at) }
 {
-    if has_room(out.len(), at, 256) {} else {
+    if !has_room(out.len(), at, 256) {
         return at;
     }
     put_row(out, at, word, b, first, count)
@@ -87,21 +86,21 @@ fn put_fraction(out: &mut [u8], at: usize, f: Fraction) -> usize
     put_tens(out, p1 + 1, f.bottom, 20)
 }
 
-fn put_mean(out: &mut [u8], at: usize, m: Mean) -> usize
+fn put_mean(out: &mut [u8], at: usize, m: Option<Fraction>) -> usize
     requires { at + 41 ≤ length out.old }
     ensures { (result ≡ at + length (mean_number m)) × (Stored out.old at (mean_number m) out.new) }
 {
     match m {
-        Mean::Exact(f) => put_fraction(out, at, f),
-        Mean::Over => put_word(out, at, b"over"),
+        Some(f) => put_fraction(out, at, f),
+        None => put_word(out, at, b"over"),
     }
 }
 
 // The line of the mean, behind the first `at` octets of the buffer; where fewer than 256 are left, nothing.
-fn write_mean(out: &mut [u8], at: usize, m: Mean) -> usize
+fn write_mean(out: &mut [u8], at: usize, m: Option<Fraction>) -> usize
     ensures { up_to out.new result ≡ put_of (mean_line m) (up_to out.old at) }
 {
-    if has_room(out.len(), at, 256) {} else {
+    if !has_room(out.len(), at, 256) {
         return at;
     }
     let p1 = put_word(out, at, b"mean ");
@@ -132,8 +131,7 @@ fn write_holds(out: &mut [u8], at: usize, b: [Total; 23]) -> usize
     let p1 = write_row(out, at, b"holds", b, 20, 1);
     let p2 = write_row(out, p1, b"longest", b, 21, 1);
     let p3 = write_row(out, p2, b"total", b, 22, 1);
-    let m = mean_hold(b);
-    write_mean(out, p3, m)
+    write_mean(out, p3, mean_hold(b))
 }
 
 // Writes the ten lines behind the first `at` octets of the buffer and gives where they end; a line that finds fewer than 256 octets is left out.

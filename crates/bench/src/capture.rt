@@ -40,10 +40,7 @@ pub(crate) fn is_numbered(xs: &[u8]) -> bool
     requires { 24 ≤ length xs.now }
     ensures { result ≡ numbered xs.now }
 {
-    if is_big(xs) {
-        return true;
-    }
-    number_at(xs, false, 0) == 0xA1B2C3D4
+    is_big(xs) || number_at(xs, false, 0) == 0xA1B2C3D4
 }
 
 // Whether its link type is that of frames as they are.
@@ -68,8 +65,5 @@ pub(crate) fn time_at(xs: &[u8], big: bool) -> u64
 pub(crate) fn is_kept(captured: u32, original: u32) -> bool
     ensures { result ≡ keeps_of captured original }
 {
-    if captured < original {
-        return false;
-    }
-    captured <= 4096
+    original <= captured && captured <= 4096
 }

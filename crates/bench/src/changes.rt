@@ -30,19 +30,17 @@ fn put_because(out: &mut [u8], at: usize, reason: Reason, value: u64) -> usize
 fn write_because(out: &mut [u8], at: usize, w: Why) -> usize
     ensures { up_to out.new result ≡ put_of (short (because_line w)) (up_to out.old at) }
 {
-    if has_room(out.len(), at, 64) {} else {
+    if !has_room(out.len(), at, 64) {
         return at;
     }
-    let reason = w.reason;
-    put_because(out, at, reason, w.value)
+    put_because(out, at, w.reason, w.value)
 }
 
 // Why an event came to what it did, where a rule decided it.
 fn show_because(output: &mut [u8], out: usize, w: Why) -> usize
     ensures { up_to output.new result ≡ put_all (because_lines w) (up_to output.old out) }
 {
-    let reason = w.reason;
-    if reason_number(reason) == 0 {
+    if reason_number(w.reason) == 0 {
         return out;
     }
     write_because(output, out, w)
@@ -62,75 +60,48 @@ fn put_free(out: &mut [u8], at: usize, place: u8) -> usize
 fn write_free(out: &mut [u8], at: usize, place: u8) -> usize
     ensures { up_to out.new result ≡ put_of (short (free_line place)) (up_to out.old at) }
 {
-    if has_room(out.len(), at, 64) {} else {
+    if !has_room(out.len(), at, 64) {
         return at;
     }
     put_free(out, at, place)
 }
 
 // Whether two devices have the same links.
+#[tactic(auto, unfolding(crate::specs::Changes::same_links))]
 fn same_links(a: Links, b: Links) -> bool
     ensures { result ≡ same_links a b }
 {
-    if a.one != b.one {
-        return false;
-    }
-    if a.two != b.two {
-        return false;
-    }
-    if a.three != b.three {
-        return false;
-    }
-    a.four == b.four
+    a == b
 }
 
 // Whether two records show the same exchange and times.
 fn same_times(p: Record, q: Record) -> bool
     ensures { result ≡ same_times p q }
 {
-    let e = p.exchange;
-    let f = q.exchange;
-    if exchange_number(e) != exchange_number(f) {
-        return false;
-    }
-    if p.left != q.left {
-        return false;
-    }
-    p.hold == q.hold
+    exchange_number(p.exchange) == exchange_number(q.exchange)
+        && p.left == q.left
+        && p.hold == q.hold
 }
 
 // Whether they show the same query.
 fn same_query(p: Record, q: Record) -> bool
     ensures { result ≡ same_query p q }
 {
-    if p.identifier != q.identifier {
-        return false;
-    }
-    let a = p.query;
-    let b = q.query;
-    if query_number(a) != query_number(b) {
-        return false;
-    }
-    query_left(a) == query_left(b)
+    p.identifier == q.identifier
+        && query_number(p.query) == query_number(q.query)
+        && query_left(p.query) == query_left(q.query)
 }
 
 // Whether they show the same in all.
+// By what is shown, field by field, as `same_record` of `specs/Changes.antt` is.
 pub fn same_record(p: Record, q: Record) -> bool
     ensures { result ≡ same_record p q }
 {
-    if p.address != q.address {
-        return false;
-    }
-    if p.state != q.state {
-        return false;
-    }
-    if same_times(p, q) {} else {
-        return false;
-    }
-    if same_query(p, q) {} else {
-        return false;
-    }
-    same_links(p.links, q.links)
+    p.address == q.address
+        && p.state == q.state
+        && same_times(p, q)
+        && same_query(p, q)
+        && same_links(p.links, q.links)
 }
 
 // A place whose record was `p` and is `q`: nothing where that is the same.
@@ -151,13 +122,12 @@ fn same_row(a: &[u8], b: &[u8], at: usize) -> bool
     requires { (at + 48 ≤ length a.now) × (at + 48 ≤ length b.now) }
     ensures { result ≡ true → take 48 (drop at a.now) ≡ take 48 (drop at b.now) }
 {
+    // `==` on two slices stops at the first octet that differs, and `changes` then takes a tenth longer.
     let mut same = true;
-    let mut j = 0;
-    while j < 48 {
+    for j in 0..48 {
         if a[at + j] != b[at + j] {
             same = false;
         }
-        j += 1;
     }
     same
 }
@@ -179,10 +149,8 @@ fn show_changed(output: &mut [u8], out: usize, before: &[u8], after: &[u8]) -> u
     ensures { up_to output.new result ≡ put_all (changed_lines 0 (records_of before.now) (records_of after.now)) (up_to output.old out) }
 {
     let mut at = out;
-    let mut i = 0;
-    while i < 32 {
+    for i in 0..32 {
         at = show_row(&mut *output, at, i, before, after);
-        i += 1;
     }
     at
 }

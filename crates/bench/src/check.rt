@@ -2,8 +2,7 @@
 ghost use Rattle.bench.specs.Check.{CheckRound, Logged, Ours};
 
 use crate::checker::{Check, at_first, beside, is_told, is_unread, lost, said, with_run};
-use crate::import::{flush, unreadable};
-use crate::outside::{Source, argument, argument_count, open, say};
+use crate::outside::{Source, argument, argument_count, flush, open, say, unreadable};
 use crate::run::{behind, turn};
 use crate::said::write_said;
 use rival::Said;
@@ -51,13 +50,12 @@ fn log_on(rt: &HostRuntime, from: &mut Source, path: &[u8], log: &mut [u8], c: C
         return c;
     }
     match from.read(log) {
-        Ok(n) => {
-            let mut next = c;
-            next.at = 0;
-            next.have = behind(0, n, log.len());
-            next.over = n == 0;
-            next
-        }
+        Ok(n) => Check {
+            at: 0,
+            have: behind(0, n, log.len()),
+            over: n == 0,
+            ..c
+        },
         Err(e) => {
             unreadable(rt, path, e);
             lost(c)
@@ -98,7 +96,7 @@ fn check_round(
     beside(output, log, b)
 }
 
-// The two files, open. A proved loop has to end, and nothing says that a file does: so the turns are counted down from a number that no check
+// The two files, open. A proved loop has to end, and nothing says that a file does: so the turns are counted, up to a number that no check
 // uses up.
 fn check_all(
     rt: &HostRuntime,
@@ -112,8 +110,7 @@ fn check_all(
     let mut output = [0u8; 65536];
     let mut log = [0u8; 65536];
     let mut c = at_first();
-    let mut turns = u64::MAX;
-    while turns > 0 {
+    for _ in 0..u64::MAX {
         c = check_round(
             rt,
             from,
@@ -133,7 +130,6 @@ fn check_all(
             tell(rt, said(&output, &log, c));
             return;
         }
-        turns -= 1;
     }
 }
 

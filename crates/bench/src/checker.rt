@@ -52,28 +52,17 @@ fn part(s: &[u8], at: usize, have: usize) -> &[u8]
 pub(crate) fn is_unread(r: Run) -> bool
     ensures { result ≡ is_unread r }
 {
-    if r.done {} else {
-        return false;
-    }
-    if r.over {
-        return false;
-    }
-    r.out == 0
+    r.done && !r.over && r.out == 0
 }
 
 // The run went on to r, whose lines are all still to be compared.
 pub(crate) fn with_run(c: Check, r: Run) -> Check
     ensures { result ≡ with_run c r }
 {
-    let standing = c.standing;
     Check {
         run: r,
-        standing,
         mark: 0,
-        at: c.at,
-        have: c.have,
-        over: c.over,
-        broken: c.broken,
+        ..c
     }
 }
 
@@ -81,9 +70,7 @@ pub(crate) fn with_run(c: Check, r: Run) -> Check
 pub(crate) fn lost(c: Check) -> Check
     ensures { result.broken ≡ true }
 {
-    let mut next = c;
-    next.broken = true;
-    next
+    Check { broken: true, ..c }
 }
 
 // The two beside each other.
@@ -91,17 +78,16 @@ pub(crate) fn beside(output: &[u8], log: &[u8], c: Check) -> Check
     ensures { result ≡ beside_on output.now log.now c }
 {
     let r = c.run;
-    let s = c.standing;
-    let p = compare(part(output, c.mark, r.out), part(log, c.at, c.have), s);
-    let standing = p.standing;
+    let p = compare(
+        part(output, c.mark, r.out),
+        part(log, c.at, c.have),
+        c.standing,
+    );
     Check {
-        run: r,
-        standing,
+        standing: p.standing,
         mark: behind(c.mark, p.taken, r.out),
         at: behind(c.at, p.taken, c.have),
-        have: c.have,
-        over: c.over,
-        broken: c.broken,
+        ..c
     }
 }
 
@@ -110,15 +96,16 @@ pub(crate) fn is_told(c: Check) -> bool
     ensures { result ≡ is_settled c }
 {
     let r = c.run;
-    let s = c.standing;
-    is_settled(s, r.out <= c.mark, r.done, c.have <= c.at, c.over)
+    is_settled(c.standing, r.out <= c.mark, r.done, c.have <= c.at, c.over)
 }
 
 // What is said, once nothing changes it.
 pub(crate) fn said(output: &[u8], log: &[u8], c: Check) -> Said
     ensures { result ≡ said_by c.standing (part_of c.mark c.run.out output.now) (part_of c.at c.have log.now) }
 {
-    let r = c.run;
-    let s = c.standing;
-    ending(part(output, c.mark, r.out), part(log, c.at, c.have), s)
+    ending(
+        part(output, c.mark, c.run.out),
+        part(log, c.at, c.have),
+        c.standing,
+    )
 }

@@ -22,6 +22,7 @@ fn one(b: bool) -> u8
 }
 
 // n octets, for the values from k on: 1 for v, else 0.
+// A recursion, as `ones_from` is.
 fn put_ones(out: &mut [u8], at: usize, k: u8, n: usize, v: u8) -> usize
     requires { (at + n ≤ length out.old) × (k + n ≤ 255) }
     ensures { (result ≡ at + n) × (Stored out.old at (ones_from k n v) out.new) }
@@ -49,6 +50,7 @@ fn reported(reports: &[u8], kind: u8) -> u8
     requires { length reports.now ≤ 256 }
     ensures { result ≡ reports_in kind 1 reports.now }
 {
+    // By hand: of what `skip(1).step_by(8)` gives the proof learns too little to count it.
     let mut count: u8 = 0;
     let mut i = 1;
     while i < reports.len() {
@@ -73,6 +75,7 @@ fn put_timeouts(out: &mut [u8], at: usize, reports: &[u8]) -> usize
 }
 
 // Whether a hold was set, and the hold.
+// Flag and hold: `facts_of` takes both, and each is counted by itself.
 fn put_hold(out: &mut [u8], at: usize, set: bool, hold: u32) -> usize
     requires { at + 5 ≤ length out.old }
     ensures { (result ≡ at + 5) × (Stored out.old at (one set ∷ octets 4 hold) out.new) }
@@ -117,7 +120,7 @@ pub(crate) fn write_facts(
     requires { length reports.now ≤ 256 }
     ensures { up_to out.new result ≡ put_of (short (facts_of a dropped reports.now set hold)) (up_to out.old at) }
 {
-    if has_room(out.len(), at, 64) {} else {
+    if !has_room(out.len(), at, 64) {
         return at;
     }
     put_facts(out, at, a, dropped, reports, set, hold)
@@ -135,10 +138,8 @@ pub(crate) fn reported_by(e: Event, written: u16, scratch: &[u8]) -> &[u8]
     ensures { result.now ≡ reported_by e written scratch.now }
 {
     match e {
-        Event::Frame => &scratch[..0],
-        Event::Ask { .. } => &scratch[..0],
-        Event::Links => &scratch[..0],
         Event::Clock(_) => first(scratch, written as usize),
+        _ => &scratch[..0],
     }
 }
 
@@ -146,13 +147,8 @@ pub(crate) fn reported_by(e: Event, written: u16, scratch: &[u8]) -> &[u8]
 fn is_rejected(a: Answer) -> bool
     ensures { result ≡ is_rejected a }
 {
-    if a.code == 0 {
-        return false;
-    }
-    if a.notice == Told::ASSOCIATION_CONFIRM {
-        return true;
-    }
-    a.notice == Told::REASSOCIATION_CONFIRM
+    a.code != 0
+        && (a.notice == Told::ASSOCIATION_CONFIRM || a.notice == Told::REASSOCIATION_CONFIRM)
 }
 
 // The indication of a disassociation.
@@ -166,13 +162,7 @@ fn is_parted(a: Answer) -> bool
 fn frame_sets(role: u8, a: Answer) -> bool
     ensures { result ≡ frame_sets role a }
 {
-    if role != Settings::STATION {
-        return false;
-    }
-    if is_rejected(a) {
-        return true;
-    }
-    is_parted(a)
+    role == Settings::STATION && (is_rejected(a) || is_parted(a))
 }
 
 // Whether an event set a hold.
@@ -181,9 +171,7 @@ pub(crate) fn sets_hold(role: u8, e: Event, a: Answer) -> bool
 {
     match e {
         Event::Frame => frame_sets(role, a),
-        Event::Ask { .. } => false,
-        Event::Links => false,
-        Event::Clock(_) => false,
+        _ => false,
     }
 }
 
@@ -201,8 +189,5 @@ fn hold_set(frame: &[u8], a: Answer) -> u32
 pub(crate) fn hold_of(set: bool, frame: &[u8], a: Answer) -> u32
     ensures { result ≡ hold_of set frame.now a }
 {
-    if set {
-        return hold_set(frame, a);
-    }
-    0
+    if set { hold_set(frame, a) } else { 0 }
 }

@@ -6,11 +6,10 @@ ghost use Rattle.bench.specs.Importer.{is_over};
 use crate::importer::{Stage, State, ending, start, turn};
 use crate::input::shift;
 use crate::outside::{
-    Source, argument, argument_count, open, print, read_full, say, say_error, say_number,
+    Source, argument, argument_count, complain, flush, open, read_full, say, say_number, unreadable,
 };
 use crate::run::behind;
 use crate::text::has_room;
-use std::io;
 use std::io::Read;
 use table::host::input::{Taken, record_length, take};
 
@@ -31,12 +30,9 @@ struct Job {
 fn is_settings(s: &[u8]) -> bool
     ensures { result ≡ one_settings s.now }
 {
-    let t = take(s, true);
-    match t {
+    match take(s, true) {
         Taken::First(_) => record_length(s) == s.len(),
-        Taken::Cut => false,
-        Taken::Fault => false,
-        Taken::Next(_) => false,
+        _ => false,
     }
 }
 
@@ -44,45 +40,19 @@ fn is_settings(s: &[u8]) -> bool
 fn is_over(s: State) -> bool
     ensures { result ≡ is_over s.stage }
 {
-    let g = s.stage;
-    match g {
-        Stage::Over(_) => true,
-        Stage::Head => false,
-        Stage::Between => false,
-        Stage::Passing(_) => false,
-    }
-}
-
-// A line on standard error that names a file.
-pub(crate) fn complain(rt: &HostRuntime, path: &[u8], what: &[u8]) {
-    say(rt, b"bench: ");
-    say(rt, path);
-    say(rt, what);
-}
-
-// The same, with what the system says.
-pub(crate) fn unreadable(rt: &HostRuntime, path: &[u8], e: io::Error) {
-    complain(rt, path, b": ");
-    say_error(rt, e);
-    say(rt, b"\n");
-}
-
-// Writes out what lies in the buffer; whether that went well.
-pub(crate) fn flush(rt: &HostRuntime, output: &[u8], n: usize) -> bool {
-    if output.len() < n {
-        return false;
-    }
-    print(rt, &output[..n])
+    matches!(s.stage, Stage::Over(_))
 }
 
 // The last line, on standard error.
 fn report(rt: &HostRuntime, s: State, left: usize) {
-    let counts = s.counts;
-    let refusal = ending(s, left);
+    let refusal = match ending(s, left) {
+        Ok(()) => 0,
+        Err(r) => r.number(),
+    };
     say(rt, b"import: ");
-    say_number(rt, counts.packets);
+    say_number(rt, s.counts.packets);
     say(rt, b" packets, ");
-    say_number(rt, counts.left);
+    say_number(rt, s.counts.left);
     say(rt, b" left out, refusal ");
     say_number(rt, refusal as u64);
     say(rt, b"\n");
@@ -97,37 +67,28 @@ fn refill(
     output: &[u8],
     j: Job,
 ) -> Job {
-    let mut next = j;
     let left = shift(input, j.at, j.have);
     match from.read(&mut input[left..]) {
-        Ok(n) => {
-            next.at = 0;
-            next.have = behind(left, n, input.len());
-            next.over = n == 0;
-            next
-        }
+        Ok(n) => Job {
+            at: 0,
+            have: behind(left, n, input.len()),
+            over: n == 0,
+            ..j
+        },
         Err(e) => {
             unreadable(rt, path, e);
             flush(rt, output, j.out);
-            next.done = true;
-            next
+            Job { done: true, ..j }
         }
     }
 }
 
 // The end: what lies in the buffer is written out, and the last line.
 fn finish(rt: &HostRuntime, output: &[u8], j: Job) -> Job {
-    let mut next = j;
-    next.done = true;
-    if flush(rt, output, j.out) {} else {
-        return next;
+    if flush(rt, output, j.out) && j.at <= j.have {
+        report(rt, j.state, j.have - j.at);
     }
-    if j.have < j.at {
-        return next;
-    }
-    let s = j.state;
-    report(rt, s, j.have - j.at);
-    next
+    Job { done: true, ..j }
 }
 
 // More of the capture is wanted.
@@ -139,11 +100,7 @@ fn wanted(
     output: &[u8],
     j: Job,
 ) -> Job {
-    if j.over {
-        return finish(rt, output, j);
-    }
-    let s = j.state;
-    if is_over(s) {
+    if j.over || is_over(j.state) {
         return finish(rt, output, j);
     }
     refill(rt, from, path, input, output, j)
@@ -158,37 +115,32 @@ fn advance(
     output: &mut [u8],
     j: Job,
 ) -> Job {
-    let at = j.at;
-    let have = j.have;
-    let mut next = j;
-    next.done = true;
-    if have < at {
-        return next;
+    if j.have < j.at || input.len() < j.have {
+        return Job { done: true, ..j };
     }
-    if input.len() < have {
-        return next;
-    }
-    let s = j.state;
-    let t = turn(&input[at..have], output, j.out, s);
-    let state = t.state;
-    next.done = false;
-    next.state = state;
-    next.at = behind(at, t.taken, have);
-    next.out = t.out;
+    let t = turn(&input[j.at..j.have], output, j.out, j.state);
+    let next = Job {
+        state: t.state,
+        at: behind(j.at, t.taken, j.have),
+        out: t.out,
+        done: false,
+        ..j
+    };
     if t.wants {
         return wanted(rt, from, path, input, output, next);
     }
     if has_room(output.len(), next.out, 8192) {
         return next;
     }
-    let well = flush(rt, output, next.out);
-    next.out = 0;
-    next.done = !well;
-    next
+    Job {
+        done: !flush(rt, output, next.out),
+        out: 0,
+        ..next
+    }
 }
 
 // The capture, behind the settings record that is in the output already. A proved loop has to end, and nothing says that a file does: so the
-// turns are counted down from a number that no run uses up.
+// turns are counted, up to a number that no run uses up.
 fn import_all(rt: &HostRuntime, from: &mut Source, path: &[u8], output: &mut [u8], out: usize) {
     let mut input = [0u8; 65536];
     let mut j = Job {
@@ -199,13 +151,11 @@ fn import_all(rt: &HostRuntime, from: &mut Source, path: &[u8], output: &mut [u8
         over: false,
         done: false,
     };
-    let mut turns = u64::MAX;
-    while turns > 0 {
+    for _ in 0..u64::MAX {
         if j.done {
             return;
         }
         j = advance(rt, from, path, &mut input, output, j);
-        turns -= 1;
     }
 }
 

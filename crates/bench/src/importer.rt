@@ -1,12 +1,23 @@
 // The importer of captures, one turn at a time: it is handed octets of the file and a state, and puts records out. No packet that is left out
 // and no gap is ever held whole.
-ghost use Rattle.std.specs.Prelude.{◌≡◌};
-ghost use Rattle.bench.specs.Importer.{start_of, head_front, end_at, turned_of, Turned};
+ghost use Rattle.std.specs.Prelude.{◌≡◌, MatchResult};
+ghost use Rattle.bench.specs.Importer.{start_of, head_front, end_at, refusal_number, turned_of, Turned};
 
 use crate::capture::{is_big, is_linked, is_numbered};
 use crate::packet::{between, passing};
 use crate::passed::{Clock, Counts};
 use crate::text::has_room;
+
+// Why an import comes to no good end, each by its number. Earlier records stand.
+#[derive(Clone, Copy, PartialEq, Eq)]
+pub enum Refusal {
+    // The file does not begin with the number of a capture.
+    OtherNumber = 1,
+    // Its link type is another.
+    OtherLink = 2,
+    // Its header or a packet is cut.
+    CutShort = 3,
+}
 
 // Where the importer stands in the file.
 #[derive(Clone, Copy)]
@@ -18,7 +29,7 @@ pub enum Stage {
     // Within a packet that is left out, with so many octets of it to pass.
     Passing(u32),
     // Done, with a refusal.
-    Over(u8),
+    Over(Refusal),
 }
 
 #[derive(Clone, Copy)]
@@ -31,6 +42,7 @@ pub struct State {
 }
 
 // After a turn: the octets taken, where the output ends, and whether more octets are wanted.
+// `wants` beside the rest, as `Front` has it: the octets taken count either way.
 #[derive(Clone, Copy)]
 pub struct After {
     pub state: State,
@@ -62,8 +74,6 @@ pub fn start() -> State
 fn head(xs: &[u8], at: usize, s: State) -> After
     ensures { result ≡ turned_of at (head_front s xs.now) }
 {
-    let clock = s.clock;
-    let counts = s.counts;
     if xs.len() < 24 {
         return After {
             state: s,
@@ -72,26 +82,24 @@ fn head(xs: &[u8], at: usize, s: State) -> After
             wants: true,
         };
     }
-    if is_numbered(xs) {} else {
+    if !is_numbered(xs) {
         return After {
             state: State {
-                stage: Stage::Over(1),
+                stage: Stage::Over(Refusal::OtherNumber),
                 big: false,
-                clock,
-                counts,
+                ..s
             },
             taken: 24,
             out: at,
             wants: false,
         };
     }
-    if is_linked(xs) {} else {
+    if !is_linked(xs) {
         return After {
             state: State {
-                stage: Stage::Over(2),
+                stage: Stage::Over(Refusal::OtherLink),
                 big: false,
-                clock,
-                counts,
+                ..s
             },
             taken: 24,
             out: at,
@@ -102,8 +110,7 @@ fn head(xs: &[u8], at: usize, s: State) -> After
         state: State {
             stage: Stage::Between,
             big: is_big(xs),
-            clock,
-            counts,
+            ..s
         },
         taken: 24,
         out: at,
@@ -115,7 +122,7 @@ fn head(xs: &[u8], at: usize, s: State) -> After
 pub fn turn(xs: &[u8], out: &mut [u8], at: usize, s: State) -> After
     ensures { Turned s xs.now at out.old result out.new }
 {
-    if has_room(out.len(), at, 4108) {} else {
+    if !has_room(out.len(), at, 4108) {
         return After {
             state: s,
             taken: 0,
@@ -123,8 +130,7 @@ pub fn turn(xs: &[u8], out: &mut [u8], at: usize, s: State) -> After
             wants: false,
         };
     }
-    let g = s.stage;
-    match g {
+    match s.stage {
         Stage::Head => head(xs, at, s),
         Stage::Between => between(xs, out, at, s),
         Stage::Passing(n) => passing(xs, at, s, n),
@@ -137,15 +143,28 @@ pub fn turn(xs: &[u8], out: &mut [u8], at: usize, s: State) -> After
     }
 }
 
-// The refusal, once the input has come to its end with so many octets left that no turn takes.
-pub fn ending(s: State, left: usize) -> u8
-    ensures { result ≡ end_at s.stage left }
+// How it ends, once the input has come to its end with so many octets left that no turn takes.
+pub fn ending(s: State, left: usize) -> Result<(), Refusal>
+    ensures { MatchResult result (λ ok. end_at s.stage left ≡ 0) (λ r. end_at s.stage left ≡ refusal_number r) }
 {
-    let g = s.stage;
-    match g {
-        Stage::Head => 3,
-        Stage::Between => { if left == 0 { 0 } else { 3 } }
-        Stage::Passing(_) => 3,
-        Stage::Over(r) => r,
+    match s.stage {
+        Stage::Head => Err(Refusal::CutShort),
+        Stage::Between => {
+            if left == 0 {
+                Ok(())
+            } else {
+                Err(Refusal::CutShort)
+            }
+        }
+        Stage::Passing(_) => Err(Refusal::CutShort),
+        Stage::Over(r) => Err(r),
+    }
+}
+
+impl Refusal {
+    pub fn number(self) -> u8
+        ensures { result ≡ refusal_number self }
+    {
+        self as u8
     }
 }

@@ -12,10 +12,6 @@ pub(crate) fn shift(input: &mut [u8], at: usize, have: usize) -> usize
     if have < at {
         return 0;
     }
-    let mut i = 0;
-    while i < have - at {
-        input[i] = input[at + i];
-        i += 1;
-    }
+    input.copy_within(at..have, 0);
     have - at
 }

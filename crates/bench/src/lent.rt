@@ -33,7 +33,7 @@ pub fn lent_play(s: Settings, fit: bool, t: [Record; 32], e: Event, frame: &[u8]
     ensures { fit ≡ settings_fit s → (settings_fit s ≡ true → well_formed s t ≡ true) → (result.table ≡ (step_of s t e frame.now 256).table) × (result.answer ≡ (step_of s t e frame.now 256).answer) × (result.scratch ≡ step_in s t e frame.now zeros) }
 {
     let mut scratch = [0u8; 256];
-    if fit {} else {
+    if !fit {
         return Played {
             table: t,
             answer: Answer::refusal(2),
@@ -41,11 +41,11 @@ pub fn lent_play(s: Settings, fit: bool, t: [Record; 32], e: Event, frame: &[u8]
         };
     }
     let r = lend(s, t, e, frame, &mut scratch);
+    // A variable of its own: the prover does not cover an array moved from field to field.
     let table = r.table;
-    let answer = r.answer;
     Played {
         table,
-        answer,
+        answer: r.answer,
         scratch,
     }
 }

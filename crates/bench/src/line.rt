@@ -8,29 +8,26 @@ use crate::text::{has_room, put_field, put_letter, put_octet, put_tens, put_word
 use table::rules::answer::Answer;
 
 // A, D or -.
+// By number here and below, as `Answer` has it: any other is -.
 fn verdict_letter(verdict: u8) -> u8
     ensures { result ≡ verdict_letter verdict }
 {
-    if verdict == 1 {
-        return b'A';
+    match verdict {
+        1 => b'A',
+        2 => b'D',
+        _ => b'-',
     }
-    if verdict == 2 {
-        return b'D';
-    }
-    b'-'
 }
 
 // J, L or -.
 fn ds_letter(ds: u8) -> u8
     ensures { result ≡ ds_letter ds }
 {
-    if ds == 1 {
-        return b'J';
+    match ds {
+        1 => b'J',
+        2 => b'L',
+        _ => b'-',
     }
-    if ds == 2 {
-        return b'L';
-    }
-    b'-'
 }
 
 // Event number, refusal, verdict, notice.
@@ -61,7 +58,7 @@ fn put_back(out: &mut [u8], at: usize, a: Answer) -> usize
 pub fn write_line(out: &mut [u8], at: usize, number: u64, a: Answer) -> usize
     ensures { up_to out.new result ≡ put_of (short (line_of number a)) (up_to out.old at) }
 {
-    if has_room(out.len(), at, 64) {} else {
+    if !has_room(out.len(), at, 64) {
         return at;
     }
     let next = put_front(out, at, number, a);
@@ -72,7 +69,7 @@ pub fn write_line(out: &mut [u8], at: usize, number: u64, a: Answer) -> usize
 pub fn write_stop(out: &mut [u8], at: usize) -> usize
     ensures { up_to out.new result ≡ put_of (short stop_line) (up_to out.old at) }
 {
-    if has_room(out.len(), at, 64) {} else {
+    if !has_room(out.len(), at, 64) {
         return at;
     }
     put_word(out, at, b"stop\n")

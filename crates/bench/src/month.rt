@@ -8,8 +8,7 @@ ghost use Rattle.bench.specs.Run.{flushed_of};
 ghost use Rattle.bench.specs.Month.{Counted, added_of};
 
 use crate::facts::first;
-use crate::import::{complain, unreadable};
-use crate::outside::{Source, argument, argument_count, open, print, say};
+use crate::outside::{Source, argument, argument_count, complain, open, print, say, unreadable};
 use crate::run::{Prints, Run, turn};
 use crate::total::print_block;
 use octets::field::u32_at;
@@ -20,56 +19,39 @@ use sums::total::Total;
 fn octet(s: &[u8], i: usize) -> u8
     ensures { result ≡ get_or s.now i 0 }
 {
-    if i < s.len() { s[i] } else { 0 }
+    s.get(i).copied().unwrap_or(0)
 }
 
 // The number of an octet.
+#[tactic(auto, using(sums::proofs::Totals::held_fits))]
 fn number(facts: &[u8], i: usize) -> Total
     ensures { result ≡ held (get_or facts.now i 0) }
 {
-    Total::Sum(octet(facts, i) as u64)
+    Some(octet(facts, i) as u64)
 }
 
 // The hold.
+#[tactic(auto, using(sums::proofs::Totals::held_fits))]
 fn hold(facts: &[u8]) -> Total
     ensures { result ≡ held (field 4 21 facts.now) }
 {
-    Total::Sum(u32_at(facts, 21) as u64)
+    Some(u32_at(facts, 21) as u64)
 }
 
 // The numbers of an event as a block.
 fn block_in(facts: &[u8]) -> [Total; 23]
     ensures { result ≡ block_of (numbers_in facts.now) }
 {
-    let h = hold(facts);
-    [
-        number(facts, 0),
-        number(facts, 1),
-        number(facts, 2),
-        number(facts, 3),
-        number(facts, 4),
-        number(facts, 5),
-        number(facts, 6),
-        number(facts, 7),
-        number(facts, 8),
-        number(facts, 9),
-        number(facts, 10),
-        number(facts, 11),
-        number(facts, 12),
-        number(facts, 13),
-        number(facts, 14),
-        number(facts, 15),
-        number(facts, 16),
-        number(facts, 17),
-        number(facts, 18),
-        number(facts, 19),
-        number(facts, 20),
-        h,
-        h,
-    ]
+    // The hold stands at the last two places.
+    let mut block = [hold(facts); 23];
+    for i in 0..21 {
+        block[i] = number(facts, i);
+    }
+    block
 }
 
 // The block with what a turn left in the output buffer, n octets.
+#[tactic(auto, using(octets::proofs::Branch::tests), unfolding(crate::specs::Month::added_of))]
 fn added(block: [Total; 23], n: usize, output: &[u8]) -> [Total; 23]
     ensures { result ≡ added_of block n output.now }
 {
@@ -80,24 +62,20 @@ fn added(block: [Total; 23], n: usize, output: &[u8]) -> [Total; 23]
 }
 
 // The run with nothing left in the output buffer.
+#[tactic(auto, unfolding(crate::specs::Run::flushed_of))]
 fn emptied(r: Run) -> Run
     ensures { result ≡ flushed_of r r.done }
 {
-    let mut next = r;
-    next.out = 0;
-    next
+    Run { out: 0, ..r }
 }
 
 // A line on standard error where a file did not come to its end: the line `stop`, or a read that failed.
 fn tell(rt: &HostRuntime, from: &Source, path: &[u8], over: bool, stopped: bool) {
     if stopped {
         complain(rt, path, b": stops at a fault; counted up to there\n");
-        return;
+    } else if !over {
+        unreadable(rt, path, from.failure());
     }
-    if over {
-        return;
-    }
-    unreadable(rt, path, from.failure());
 }
 
 // A sign of life. There is no clock here: a line every 1,048,576 turns, which take about a second.
@@ -109,8 +87,7 @@ fn alive(rt: &HostRuntime, path: &[u8], turns: u64) {
     }
 }
 
-// The block of a file that is open. A proved loop has to end, and nothing says that a file does: so the turns are counted down from a number that no
-// file uses up.
+// The block of a file that is open. A proved loop has to end, and nothing says that a file does: so there is an end to the turns, which no file comes to.
 fn count_file(rt: &HostRuntime, from: &mut Source, path: &[u8]) -> [Total; 23]
     ensures { Counted result }
 {
@@ -120,19 +97,18 @@ fn count_file(rt: &HostRuntime, from: &mut Source, path: &[u8]) -> [Total; 23]
     let mut r = Run::new(Prints::Facts);
     let mut block = empty();
     let mut stopped = false;
-    let mut turns = u64::MAX;
-    while turns > 0 {
+    for gone in 0..u64::MAX {
         if r.done {
             tell(rt, from, path, r.over, stopped);
             return block;
         }
         let next = turn(from, &mut table, &mut input, &mut output, r);
+        // The check takes an array that a call gives into a new name alone.
         let more = added(block, next.out, &output);
         block = more;
         stopped = next.out == 5;
         r = emptied(next);
-        alive(rt, path, turns);
-        turns -= 1;
+        alive(rt, path, gone + 1);
     }
     block
 }
@@ -143,10 +119,7 @@ fn named_block(rt: &HostRuntime, path: &[u8]) -> [Total; 23] {
     print(rt, path);
     print(rt, b"\n");
     match open(rt, path) {
-        Ok(file) => {
-            let mut from = file;
-            count_file(rt, &mut from, path)
-        }
+        Ok(mut from) => count_file(rt, &mut from, path),
         Err(e) => {
             unreadable(rt, path, e);
             empty()
@@ -163,14 +136,13 @@ pub fn month_files(rt: &HostRuntime) {
     }
     let mut path = [0u8; 4096];
     let mut all = empty();
-    let mut i = 2;
-    while i < count {
+    for i in 2..count {
         let n = argument(rt, i, &mut path);
         let block = named_block(rt, &path[..n]);
         print_block(rt, block);
+        // The check takes an array that a call gives into a new name alone.
         let more = join(all, block);
         all = more;
-        i += 1;
     }
     print(rt, b"all\n");
     print_block(rt, all);

@@ -35,13 +35,10 @@ impl Read for Source {
 // Opens a file for reading. Names are text to the library: one that is no UTF-8 can't be opened, and is told as one that the system can't read.
 pub(crate) fn open(rt: &HostRuntime, path: &[u8]) -> io::Result<Source> {
     match str::from_utf8(path) {
-        Ok(name) => match File::open(rt, name) {
-            Ok(file) => Ok(Source {
-                file,
-                failure: io::Error::from_raw_os_error(0),
-            }),
-            Err(e) => Err(e),
-        },
+        Ok(name) => Ok(Source {
+            file: File::open(rt, name)?,
+            failure: io::Error::from_raw_os_error(0),
+        }),
         // EILSEQ
         Err(_) => Err(io::Error::from_raw_os_error(84)),
     }
@@ -52,6 +49,7 @@ pub(crate) fn read_full<R: Read>(from: &mut R, buf: &mut [u8]) -> usize
     ensures { result ≤ length buf.new }
 {
     let mut done = 0;
+    // No `for`: a turn goes on by as many octets as were read, which is what the loop counts.
     while done < buf.len() {
         match from.read(&mut buf[done..]) {
             Ok(0) => return done,
@@ -66,10 +64,8 @@ pub(crate) fn read_full<R: Read>(from: &mut R, buf: &mut [u8]) -> usize
 pub(crate) fn argument_count(rt: &HostRuntime) -> usize {
     let mut word = [0u8; 1];
     for i in 0..usize::MAX {
-        match rt.arg(i, &mut word) {
-            Ok(_) => {}
-            Err(FillError::TooLong) => {}
-            Err(FillError::NotPresent) => return i,
+        if let Err(FillError::NotPresent) = rt.arg(i, &mut word) {
+            return i;
         }
     }
     usize::MAX
@@ -79,13 +75,11 @@ pub(crate) fn argument_count(rt: &HostRuntime) -> usize {
 pub(crate) fn argument(rt: &HostRuntime, i: usize, buf: &mut [u8]) -> usize
     ensures { result ≤ length buf.new }
 {
-    match rt.arg(i, buf) {
-        Ok(n) => n,
-        Err(_) => 0,
-    }
+    rt.arg(i, buf).unwrap_or(0)
 }
 
 // Octets on standard output; whether that went well.
+// A bool: no caller tells why a write failed.
 pub(crate) fn print(rt: &HostRuntime, octets: &[u8]) -> bool {
     rt.write_all(octets).is_ok()
 }
@@ -106,11 +100,30 @@ pub(crate) fn say_error(rt: &HostRuntime, e: io::Error) {
     let _ = write!(text, "{e}");
     let n = (text.position() as usize).min(512);
     let octets = text.into_inner();
-    match str::from_utf8(&octets[..n]) {
-        Ok(said) => match said.split_once(" (os error ") {
-            Some((words, _)) => say(rt, words.as_bytes()),
-            None => say(rt, said.as_bytes()),
-        },
-        Err(_) => {}
+    if let Ok(said) = str::from_utf8(&octets[..n]) {
+        let words = match said.split_once(" (os error ") {
+            Some((words, _)) => words,
+            None => said,
+        };
+        say(rt, words.as_bytes());
     }
+}
+
+// A line on standard error that names a file.
+pub(crate) fn complain(rt: &HostRuntime, path: &[u8], what: &[u8]) {
+    say(rt, b"bench: ");
+    say(rt, path);
+    say(rt, what);
+}
+
+// The same, with what the system says.
+pub(crate) fn unreadable(rt: &HostRuntime, path: &[u8], e: io::Error) {
+    complain(rt, path, b": ");
+    say_error(rt, e);
+    say(rt, b"\n");
+}
+
+// Writes out what lies in the buffer; whether that went well.
+pub(crate) fn flush(rt: &HostRuntime, output: &[u8], n: usize) -> bool {
+    n <= output.len() && print(rt, &output[..n])
 }

@@ -12,15 +12,12 @@ use crate::put::{put_rest, put_step};
 pub(crate) fn passing(xs: &[u8], at: usize, s: State, n: u32) -> After
     ensures { result ≡ turned_of at (passing_front s n xs.now) }
 {
-    let clock = s.clock;
-    let counts = s.counts;
     if n as usize <= xs.len() {
         return After {
             state: State {
                 stage: Stage::Between,
-                big: s.big,
-                clock,
-                counts: counted(false, counts),
+                counts: counted(false, s.counts),
+                ..s
             },
             taken: n as usize,
             out: at,
@@ -30,9 +27,7 @@ pub(crate) fn passing(xs: &[u8], at: usize, s: State, n: u32) -> After
     After {
         state: State {
             stage: Stage::Passing(n - xs.len() as u32),
-            big: s.big,
-            clock,
-            counts,
+            ..s
         },
         taken: xs.len(),
         out: at,
@@ -47,16 +42,13 @@ fn keep(out: &mut [u8], at: usize, s: State, c: Clock, octets: &[u8], n: u64) ->
     requires n_value { n ≡ due_of c }
     ensures { Fronted (kept_front s c octets.now n) at out.old result out.new }
 {
-    let big = s.big;
-    let counts = s.counts;
     if 65535 < n {
         put_step(out, at, 65535);
         return After {
             state: State {
                 stage: Stage::Between,
-                big,
                 clock: paid(c, 65535),
-                counts,
+                ..s
             },
             taken: 0,
             out: at + 7,
@@ -67,9 +59,9 @@ fn keep(out: &mut [u8], at: usize, s: State, c: Clock, octets: &[u8], n: u64) ->
     After {
         state: State {
             stage: Stage::Between,
-            big,
             clock: paid(c, n),
-            counts: counted(true, counts),
+            counts: counted(true, s.counts),
+            ..s
         },
         taken: octets.len() + 16,
         out: end,
@@ -82,9 +74,6 @@ pub(crate) fn between(xs: &[u8], out: &mut [u8], at: usize, s: State) -> After
     requires { at + 4108 ≤ length out.old }
     ensures { Fronted (between_front s xs.now) at out.old result out.new }
 {
-    let big = s.big;
-    let clock = s.clock;
-    let counts = s.counts;
     if xs.len() < 16 {
         return After {
             state: s,
@@ -93,16 +82,15 @@ pub(crate) fn between(xs: &[u8], out: &mut [u8], at: usize, s: State) -> After
             wants: true,
         };
     }
-    let captured = number_at(xs, big, 8);
-    let original = number_at(xs, big, 12);
-    let c = moved(clock, time_at(xs, big));
-    if is_kept(captured, original) {} else {
+    let captured = number_at(xs, s.big, 8);
+    let original = number_at(xs, s.big, 12);
+    let c = moved(s.clock, time_at(xs, s.big));
+    if !is_kept(captured, original) {
         return After {
             state: State {
                 stage: Stage::Passing(captured),
-                big,
                 clock: c,
-                counts,
+                ..s
             },
             taken: 16,
             out: at,

@@ -6,6 +6,7 @@ ghost use Rattle.bench.specs.Import.{moved_of, due_of, paid_of, counted_of};
 // Times in microseconds: the latest seen, and that up to which clock steps were put out.
 #[derive(Clone, Copy)]
 pub struct Clock {
+    // A flag, and no Option around the two times: before the first packet both are 0, and what is due then is the same sum of them.
     pub started: bool,
     pub latest: u64,
     pub since: u64,
@@ -22,23 +23,16 @@ pub struct Counts {
 pub(crate) fn one_more(n: u64) -> u64
     ensures { result ≡ number_after n }
 {
-    if n == u64::MAX { n } else { n + 1 }
+    n.saturating_add(1)
 }
 
 // A packet is counted.
 pub(crate) fn counted(kept: bool, k: Counts) -> Counts
     ensures { result ≡ counted_of kept k }
 {
-    let packets = one_more(k.packets);
-    if kept {
-        return Counts {
-            packets,
-            left: k.left,
-        };
-    }
     Counts {
-        packets,
-        left: one_more(k.left),
+        packets: one_more(k.packets),
+        left: if kept { k.left } else { one_more(k.left) },
     }
 }
 
@@ -46,24 +40,16 @@ pub(crate) fn counted(kept: bool, k: Counts) -> Counts
 pub(crate) fn moved(c: Clock, time: u64) -> Clock
     ensures { result ≡ moved_of c time }
 {
-    if c.started {} else {
+    if !c.started {
         return Clock {
             started: true,
             latest: time,
             since: time,
         };
     }
-    if c.latest < time {
-        return Clock {
-            started: true,
-            latest: time,
-            since: c.since,
-        };
-    }
     Clock {
-        started: true,
-        latest: c.latest,
-        since: c.since,
+        latest: c.latest.max(time),
+        ..c
     }
 }
 
@@ -71,10 +57,7 @@ pub(crate) fn moved(c: Clock, time: u64) -> Clock
 pub(crate) fn due(c: Clock) -> u64
     ensures { result ≡ due_of c }
 {
-    if c.latest < c.since {
-        return 0;
-    }
-    (c.latest - c.since) / 1024
+    c.latest.saturating_sub(c.since) / 1024
 }
 
 // Of what is due n TU were put out.
@@ -83,8 +66,7 @@ pub(crate) fn paid(c: Clock, n: u64) -> Clock
     ensures { result ≡ paid_of c n }
 {
     Clock {
-        started: c.started,
-        latest: c.latest,
         since: c.since + 1024 * n,
+        ..c
     }
 }

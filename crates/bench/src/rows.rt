@@ -1,5 +1,6 @@
 // The program's table: 1,536 octets, as a host lends them. One event, played on them in place, and why; and their records.
-ghost use Rattle.std.specs.Prelude.{◌≡◌, length, ◌≤◌};
+ghost use Rattle.std.specs.Prelude.{◌≡◌, get_or, length, ◌≤◌};
+ghost use Rattle.peer.specs.Record.{free_of};
 ghost use Rattle.peer.specs.Settings.{settings_fit};
 ghost use Rattle.table.specs.Host.{host_answer, host_table, host_in};
 ghost use Rattle.table.specs.Lent.{room_of};
@@ -10,6 +11,7 @@ ghost use Rattle.bench.specs.Play.{zeros};
 
 use peer::record::Record;
 use peer::settings::Settings;
+use std::array;
 use table::host::rows::look;
 use table::host::run::{known_call, trusted};
 use table::host::why::known_why;
@@ -52,14 +54,11 @@ pub(crate) fn why_on(table: &[u8], s: Settings, fit: bool, e: Event, frame: &[u8
 pub fn records_in(table: &[u8]) -> [Record; 32]
     ensures { result ≡ records_of table.now }
 {
-    let mut t = [Record::free(); 32];
-    let mut i = 0;
-    while i < 32 {
-        let p = look(table, i);
-        t[i] = p;
-        i += 1;
-    }
-    t
+    array::from_fn(
+        |i: usize| -> Record
+            ensures { result ≡ get_or (records_of table.entry.now) i free_of }
+        { look(table, i) },
+    )
 }
 
 // A table's own octets, as an array.
@@ -67,13 +66,8 @@ pub(crate) fn octets_in(table: &[u8]) -> [u8; 1536]
     ensures { length table.now ≡ 1536 → result ≡ table.now }
 {
     let mut t = [0u8; 1536];
-    if table.len() != 1536 {
-        return t;
-    }
-    let mut i = 0;
-    while i < 1536 {
-        t[i] = table[i];
-        i += 1;
+    if table.len() == 1536 {
+        t.copy_from_slice(table);
     }
     t
 }

@@ -2,7 +2,8 @@
 ghost use Rattle.std.specs.Prelude.{◌≡◌, ℕ, true, List};
 ghost use Rattle.table.specs.Host.{host_table};
 ghost use Rattle.table.specs.Rows.{records_of};
-ghost use Rattle.bench.specs.Play.{zeros};
+ghost use Rattle.bench.specs.Output.{up_to};
+ghost use Rattle.bench.specs.Play.{number_after, zeros};
 ghost use Rattle.bench.specs.Run.{start_of, behind_of, begun_of, done_of, event_of, event_output, stop_output};
 ghost use Rattle.bench.specs.Turn.{Flushed, Made, Ready, Refilled, Rounded, Turned, TurnOf};
 ghost use Rattle.table.specs.declared.host.input.Taken.TheVariants.{Cut};
@@ -34,6 +35,7 @@ pub enum Prints {
 
 // Where a run stands. Of the input buffer the octets from `at` to `have` are still to be taken; of the output buffer the first `out` are
 // lines still to be written.
+// Flags: all four pairs of `over` and `done` come up. Places as `start_of`, `event_of` and `behind_of` name them.
 #[derive(Clone, Copy)]
 pub struct Run {
     pub settings: Settings,
@@ -92,53 +94,44 @@ pub(crate) fn behind(at: usize, n: usize, have: usize) -> usize
 fn flush<W: Write>(to: &mut W, output: &[u8], r: Run) -> Run
     ensures { Flushed output.now r result }
 {
-    let out = r.out;
-    let mut next = r;
-    next.out = 0;
-    if output.len() < out {
-        next.done = true;
+    let next = Run { out: 0, ..r };
+    if r.out <= output.len() && to.write_all(&output[..r.out]).is_ok() {
         return next;
     }
-    let written = to.write_all(&output[..out]).is_ok();
-    if written {
-        return next;
-    }
-    next.done = true;
-    next
+    finish(next)
 }
 
 // Ends the run.
 fn finish(r: Run) -> Run
     ensures { result ≡ done_of r r.out }
 {
-    let mut next = r;
-    next.done = true;
-    next
+    Run { done: true, ..r }
 }
 
 // Ends the run with the line `stop`.
 fn stop(output: &mut [u8], r: Run) -> Run
     ensures { (result ≡ done_of r (stop_output r output.old).filled) × (output.new ≡ (stop_output r output.old).octets) }
 {
-    let mut next = r;
-    next.out = write_stop(output, r.out);
-    finish(next)
+    let out = write_stop(output, r.out);
+    finish(Run { out, ..r })
 }
 
 // Reads on behind what is left.
 fn refill<R: Read>(from: &mut R, input: &mut [u8], r: Run) -> Run
     ensures { Refilled input.old r input.new result }
 {
-    let mut next = r;
     let left = shift(input, r.at, r.have);
     match from.read(&mut input[left..]) {
         Ok(n) => {
-            next.at = 0;
-            next.have = behind(left, n, input.len());
-            next.over = n == 0;
-            next
+            let have = behind(left, n, input.len());
+            Run {
+                at: 0,
+                have,
+                over: n == 0,
+                ..r
+            }
         }
-        Err(_) => finish(next),
+        Err(_) => finish(r),
     }
 }
 
@@ -146,14 +139,12 @@ fn refill<R: Read>(from: &mut R, input: &mut [u8], r: Run) -> Run
 fn cut<R: Read>(from: &mut R, input: &mut [u8], output: &mut [u8], r: Run) -> Run
     ensures { (ts : List ℕ) → Turned Cut ts input.old output.old r ts input.new output.new result }
 {
-    if r.over {
-        if r.at == r.have {
-            finish(r)
-        } else {
-            stop(output, r)
-        }
-    } else {
+    if !r.over {
         refill(from, input, r)
+    } else if r.at == r.have {
+        finish(r)
+    } else {
+        stop(output, r)
     }
 }
 
@@ -161,12 +152,35 @@ fn cut<R: Read>(from: &mut R, input: &mut [u8], output: &mut [u8], r: Run) -> Ru
 fn begin(r: Run, s: Settings, size: usize) -> Run
     ensures { result ≡ begun_of r s size }
 {
-    let mut next = r;
-    next.settings = s;
-    next.fit = s.fit();
-    next.first = false;
-    next.at = behind(r.at, size, r.have);
-    next
+    Run {
+        settings: s,
+        fit: s.fit(),
+        first: false,
+        at: behind(r.at, size, r.have),
+        ..r
+    }
+}
+
+// Plays an event, whose number is given, and prints it in the run's way; gives where the next line goes.
+fn printed(
+    table: &mut [u8],
+    output: &mut [u8],
+    r: Run,
+    number: u64,
+    e: Event,
+    frame: &[u8],
+) -> usize
+    requires { number ≡ number_after r.number }
+    ensures { Ready r table.old → (table.new ≡ host_table table.old r.settings e frame.now zeros) × (up_to output.new result ≡ event_output r (records_of table.old) e frame.now output.old) }
+{
+    // One switch an event: start_of, event_lines and whole_output are about what it asks for.
+    match r.prints {
+        Prints::Lines => plain(table, output, r, number, e, frame),
+        Prints::Trace => traced_event(table, output, r, number, e, frame),
+        Prints::Changes => changed_event(table, output, r, number, e, frame),
+        Prints::Why => explained(table, output, r, number, e, frame),
+        Prints::Facts => noted(table, output, r, e, frame),
+    }
 }
 
 // An event was taken: it is played, and its lines go to the output. The record has `size` octets, its body is `frame`.
@@ -174,31 +188,13 @@ fn event(table: &mut [u8], output: &mut [u8], r: Run, e: Event, frame: &[u8], si
     ensures { (Ready r table.old → (table.new ≡ host_table table.old r.settings e frame.now zeros) × (result ≡ event_of r (records_of table.old) e frame.now size output.old) × (output.new ≡ (event_output r (records_of table.old) e frame.now output.old).octets)) × (Made table.old) × (Made frame.now) }
 {
     let number = one_more(r.number);
-    let mut next = r;
-    next.number = number;
-    next.at = behind(r.at, size, r.have);
-    let prints = r.prints;
-    match prints {
-        Prints::Lines => {
-            next.out = plain(table, output, r, number, e, frame);
-            next
-        }
-        Prints::Trace => {
-            next.out = traced_event(table, output, r, number, e, frame);
-            next
-        }
-        Prints::Changes => {
-            next.out = changed_event(table, output, r, number, e, frame);
-            next
-        }
-        Prints::Why => {
-            next.out = explained(table, output, r, number, e, frame);
-            next
-        }
-        Prints::Facts => {
-            next.out = noted(table, output, r, e, frame);
-            next
-        }
+    let at = behind(r.at, size, r.have);
+    let out = printed(table, output, r, number, e, frame);
+    Run {
+        number,
+        at,
+        out,
+        ..r
     }
 }
 
@@ -212,21 +208,15 @@ pub fn turn<R: Read>(
 ) -> Run
     ensures { TurnOf table.old input.old output.old r table.new input.new output.new result }
 {
-    let at = r.at;
-    let have = r.have;
-    if have < at {
+    if r.have < r.at || input.len() < r.have {
         return finish(r);
     }
-    if input.len() < have {
-        return finish(r);
-    }
-    let t = take(&input[at..have], r.first);
-    match t {
+    match take(&input[r.at..r.have], r.first) {
         Taken::Fault => stop(output, r),
         Taken::Cut => cut(from, input, output, r),
-        Taken::First(s) => begin(r, s, record_length(&input[at..have])),
+        Taken::First(s) => begin(r, s, record_length(&input[r.at..r.have])),
         Taken::Next(e) => {
-            let s = &input[at..have];
+            let s = &input[r.at..r.have];
             event(table, output, r, e, body(s), record_length(s))
         }
     }
@@ -244,10 +234,7 @@ pub fn round<R: Read, W: Write>(
     ensures { Rounded table.old input.old output.old r table.new input.new output.new result }
 {
     let next = turn(from, table, input, output, r);
-    if next.done {
-        return flush(to, output, next);
-    }
-    if has_room(output.len(), next.out, 8192) {
+    if !next.done && has_room(output.len(), next.out, 8192) {
         return next;
     }
     flush(to, output, next)

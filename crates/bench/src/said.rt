@@ -64,7 +64,7 @@ fn put_said(out: &mut [u8], at: usize, said: Said) -> usize
 pub fn write_said(out: &mut [u8], at: usize, said: Said) -> usize
     ensures { up_to out.new result ≡ put_of (short (said_line said)) (up_to out.old at) }
 {
-    if has_room(out.len(), at, 64) {} else {
+    if !has_room(out.len(), at, 64) {
         return at;
     }
     put_said(out, at, said)

@@ -37,11 +37,7 @@ pub(crate) fn trace_current(output: &mut [u8], out: usize, answer: Answer) -> us
 fn has_query(p: Record) -> bool
     ensures { result ≡ has_query p }
 {
-    let q = p.query;
-    if p.identifier != 0 {
-        return true;
-    }
-    query_number(q) != 0
+    p.identifier != 0 || query_number(p.query) != 0
 }
 
 // The query of a place, where there is one, or was.
@@ -59,8 +55,7 @@ fn trace_query(output: &mut [u8], out: usize, place: u8, p: Record) -> usize
 fn trace_links(output: &mut [u8], out: usize, place: u8, p: Record) -> usize
     ensures { up_to output.new result ≡ put_all (links_lines place p) (up_to output.old out) }
 {
-    let links = p.links;
-    if links.is_none() {
+    if p.links.is_none() {
         out
     } else {
         write_links(output, out, place, p)
@@ -84,11 +79,8 @@ fn trace_table(output: &mut [u8], out: usize, t: [Record; 32]) -> usize
     ensures { up_to output.new result ≡ put_all (table_lines 0 t) (up_to output.old out) }
 {
     let mut at = out;
-    let mut i = 0;
-    while i < 32 {
-        let p = t[i];
-        at = trace_place(&mut *output, at, i as u8, p);
-        i += 1;
+    for i in 0..32 {
+        at = trace_place(&mut *output, at, i as u8, t[i]);
     }
     at
 }

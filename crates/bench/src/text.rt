@@ -22,6 +22,7 @@ pub(crate) fn put_octet(out: &mut [u8], at: usize, v: u8)
 }
 
 // A number in decimal, of at most k digits; gives where it ends.
+// By hand and not by `write!`: `tens` is of at most k digits, and each promise says which octets stand where.
 pub(crate) fn put_tens(out: &mut [u8], at: usize, n: u64, k: usize) -> usize
     requires { at + k ≤ length out.old }
     ensures { (result ≡ at + length (tens k n)) × (Stored out.old at (tens k n) out.new) }
@@ -63,12 +64,9 @@ pub(crate) fn put_word(out: &mut [u8], at: usize, word: &[u8]) -> usize
     requires { at + length word.now ≤ length out.old }
     ensures { (result ≡ at + length word.now) × (Stored out.old at word.now out.new) }
 {
-    let mut i = 0;
-    while i < word.len() {
-        out[at + i] = word[i];
-        i += 1;
-    }
-    at + i
+    let end = at + word.len();
+    out[at..end].copy_from_slice(word);
+    end
 }
 
 // A hexadecimal digit.
@@ -93,12 +91,10 @@ pub(crate) fn put_hex(out: &mut [u8], at: usize, octets: &[u8]) -> usize
     requires { at + 2 * length octets.now ≤ length out.old }
     ensures { (result ≡ at + 2 * length octets.now) × (Stored out.old at (hex_of octets.now) out.new) }
 {
-    let mut i = 0;
-    while i < octets.len() {
+    for i in 0..octets.len() {
         put_hex_octet(out, at + 2 * i, octets[i]);
-        i += 1;
     }
-    at + 2 * i
+    at + 2 * octets.len()
 }
 
 // An address as its six octets in hexadecimal, the first octet first.

@@ -1,11 +1,10 @@
 // `bench total`: blocks of the month on standard input, in any number and order, added up to one.
 use crate::block::write_block;
-use crate::import::flush;
-use crate::outside::{say, say_number};
+use crate::outside::{flush, say, say_number};
 use std::io::Read;
-use sums::adding::{add_on, failed, finished, read_on};
+use sums::adding::{Adding, failed, finished};
 use sums::block::empty;
-use sums::reader::{Reader, start};
+use sums::reader::start;
 use sums::total::Total;
 
 // The lines of a block, to standard output.
@@ -23,28 +22,29 @@ fn complain(rt: &HostRuntime, before: &[u8], line: u64, behind: &[u8]) {
 }
 
 // The end of the input: the block of all, or a line on standard error where a block is cut.
-fn tell(rt: &HostRuntime, b: [Total; 23], r: Reader) {
-    if finished(r) {
-        print_block(rt, b);
+fn tell(rt: &HostRuntime, a: Adding) {
+    if finished(a.reader) {
+        print_block(rt, a.block);
         return;
     }
     complain(
         rt,
         b"bench: the blocks end at line ",
-        r.line,
+        a.reader.line,
         b", inside one\n",
     );
 }
 
-// All of standard input. A proved loop has to end, and nothing says that an input does: so the turns are counted down from a number that no run
-// uses up.
+// All of standard input. A proved loop has to end, and nothing says that an input does: so there is an end to the turns, which no run
+// comes to.
 pub fn total_blocks(rt: &HostRuntime) {
     let mut input = [0u8; 65536];
     let mut from = rt.stdin();
-    let mut sum = empty();
-    let mut r = start();
-    let mut turns = u64::MAX;
-    while turns > 0 {
+    let mut a = Adding {
+        block: empty(),
+        reader: start(),
+    };
+    for _ in 0..u64::MAX {
         let n = match from.read(&mut input) {
             Ok(n) => n,
             Err(_) => {
@@ -53,16 +53,13 @@ pub fn total_blocks(rt: &HostRuntime) {
             }
         };
         if n == 0 {
-            tell(rt, sum, r);
+            tell(rt, a);
             return;
         }
-        let more = add_on(sum, r, &input[..n]);
-        sum = more;
-        r = read_on(r, &input[..n]);
-        if failed(r) {
-            complain(rt, b"bench: line ", r.line, b" is of no block\n");
+        a = a.add_on(&input[..n]);
+        if failed(a.reader) {
+            complain(rt, b"bench: line ", a.reader.line, b" is of no block\n");
             return;
         }
-        turns -= 1;
     }
 }

@@ -25,7 +25,7 @@ pub(crate) fn write_octets(out: &mut [u8], at: usize, octets: &[u8]) -> usize
     requires { length octets.now ≤ 256 }
     ensures { up_to out.new result ≡ put_of (octets_put octets.now) (up_to out.old at) }
 {
-    if has_room(out.len(), at, 2 * octets.len() + 64) {} else {
+    if !has_room(out.len(), at, 2 * octets.len() + 64) {
         return at;
     }
     put_octets(out, at, octets)
@@ -45,7 +45,7 @@ fn put_current(out: &mut [u8], at: usize, a: u64) -> usize
 pub fn write_current(out: &mut [u8], at: usize, a: u64) -> usize
     ensures { up_to out.new result ≡ put_of (short (current_line a)) (up_to out.old at) }
 {
-    if has_room(out.len(), at, 64) {} else {
+    if !has_room(out.len(), at, 64) {
         return at;
     }
     put_current(out, at, a)
@@ -68,9 +68,8 @@ fn put_times(out: &mut [u8], at: usize, p: Record) -> usize
     requires { at + 25 ≤ length out.old }
     ensures { (result ≡ at + length (times_of p)) × (Stored out.old at (times_of p) out.new) }
 {
-    let e = p.exchange;
     let p1 = put_field(out, at, p.state as u64, 3);
-    let p2 = put_field(out, p1, exchange_number(e) as u64, 3);
+    let p2 = put_field(out, p1, exchange_number(p.exchange) as u64, 3);
     let p3 = put_field(out, p2, p.left as u64, 5);
     let p4 = put_tens(out, p3, p.hold as u64, 10);
     put_octet(out, p4, b'\n');
@@ -81,7 +80,7 @@ fn put_times(out: &mut [u8], at: usize, p: Record) -> usize
 pub fn write_place(out: &mut [u8], at: usize, place: u8, p: Record) -> usize
     ensures { up_to out.new result ≡ put_of (short (place_line place p)) (up_to out.old at) }
 {
-    if has_room(out.len(), at, 64) {} else {
+    if !has_room(out.len(), at, 64) {
         return at;
     }
     let next = put_name(out, at, place, p);
@@ -103,9 +102,8 @@ fn put_query_times(out: &mut [u8], at: usize, p: Record) -> usize
     requires { at + 25 ≤ length out.old }
     ensures { (result ≡ at + length (query_times p)) × (Stored out.old at (query_times p) out.new) }
 {
-    let q = p.query;
-    let p1 = put_field(out, at, query_number(q) as u64, 3);
-    let p2 = put_tens(out, p1, query_left(q) as u64, 5);
+    let p1 = put_field(out, at, query_number(p.query) as u64, 3);
+    let p2 = put_tens(out, p1, query_left(p.query) as u64, 5);
     put_octet(out, p2, b'\n');
     p2 + 1
 }
@@ -114,7 +112,7 @@ fn put_query_times(out: &mut [u8], at: usize, p: Record) -> usize
 pub fn write_query(out: &mut [u8], at: usize, place: u8, p: Record) -> usize
     ensures { up_to out.new result ≡ put_of (short (query_line place p)) (up_to out.old at) }
 {
-    if has_room(out.len(), at, 64) {} else {
+    if !has_room(out.len(), at, 64) {
         return at;
     }
     let next = put_query_name(out, at, place, p);
@@ -152,7 +150,7 @@ fn put_links(out: &mut [u8], at: usize, place: u8, p: Record) -> usize
 pub fn write_links(out: &mut [u8], at: usize, place: u8, p: Record) -> usize
     ensures { up_to out.new result ≡ put_of (short (links_line place p)) (up_to out.old at) }
 {
-    if has_room(out.len(), at, 64) {} else {
+    if !has_room(out.len(), at, 64) {
         return at;
     }
     put_links(out, at, place, p)

@@ -56,11 +56,8 @@ pub(crate) fn traced_event(
 {
     let p = lent_play(r.settings, r.fit, records_in(&*table), e, frame);
     play_on(table, r.settings, r.fit, e, frame);
-    let answer = p.answer;
-    let scratch = p.scratch;
-    let after = p.table;
-    let at = write_line(&mut *output, r.out, number, answer);
-    traced(output, at, answer, scratch, after)
+    let at = write_line(&mut *output, r.out, number, p.answer);
+    traced(output, at, p.answer, p.scratch, p.table)
 }
 
 // The same, with what changed behind it, and why.
@@ -101,6 +98,7 @@ pub(crate) fn explained(
 }
 
 // The rule that dropped a frame, 0 where none did. It is asked of the table after the frame, which a frame that is dropped leaves as it was.
+// 0 for none, as `dropped_by` of `specs/Facts.antt` has it.
 fn dropped_by(table: &[u8], s: Settings, fit: bool, e: Event, frame: &[u8], verdict: u8) -> u8
     ensures { fit ≡ settings_fit s → Sound s table.now → result ≡ dropped_by e verdict (reason_number (host_why table.now s e frame.now 256).reason) }
 {
@@ -110,12 +108,9 @@ fn dropped_by(table: &[u8], s: Settings, fit: bool, e: Event, frame: &[u8], verd
                 return 0;
             }
             let w = why_on(table, s, fit, e, frame);
-            let reason = w.reason;
-            reason_number(reason)
+            reason_number(w.reason)
         }
-        Event::Ask { .. } => 0,
-        Event::Links => 0,
-        Event::Clock(_) => 0,
+        _ => 0,
     }
 }
 

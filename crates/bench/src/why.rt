@@ -54,9 +54,8 @@ fn put_why(out: &mut [u8], at: usize, number: u64, reason: Reason, value: u64) -
 pub fn write_why(out: &mut [u8], at: usize, number: u64, w: Why) -> usize
     ensures { up_to out.new result ≡ put_of (short (why_line number w)) (up_to out.old at) }
 {
-    if has_room(out.len(), at, 64) {} else {
+    if !has_room(out.len(), at, 64) {
         return at;
     }
-    let reason = w.reason;
-    put_why(out, at, number, reason, w.value)
+    put_why(out, at, number, w.reason, w.value)
 }

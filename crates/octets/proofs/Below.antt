@@ -1,6 +1,7 @@
 -- What octets, each below 256, bound: a field of n octets is below 256 ^ n (`field_below`), so a comeback is below 2 ^ 32
 -- (`comeback_below`), and each field of what is heard fits (`heard_fits`).
 -- Assumes nothing.
+use Rattle.std.specs.Prelude.{Some}
 use Prim.Native.Nat.{ℕ, zero, suc, ◌<◌, ◌^◌}
 use mathlib.Core.Path.{◌≡◌, refl}
 use mathlib.Core.Bool.{true}
@@ -14,7 +15,6 @@ use Rattle.octets.specs.Field.{le, field, all_octets, type_of, subtype_of}
 use Rattle.octets.specs.Element.{walk, wanted_at, comeback_of}
 use Rattle.octets.specs.Heard.{heard_of, management_of, query_of, response_of, authentication_of}
 use Rattle.octets.specs.Read.{ComebackFits, HeardFits}
-use Rattle.octets.specs.declared.element.Comeback.TheVariants.{Given}
 use Rattle.octets.specs.declared.heard.Kind.{Kind}
 use Rattle.octets.proofs.Branch.{and_left, and_right, pick_both}
 
@@ -55,7 +55,7 @@ walk_below (x ∷ n ∷ rest) zero h =
     (pick_both ComebackFits (wanted_at (x ∷ n ∷ rest) n) (field_below 4 1 rest r) (walk_below rest n r))
     tt
 
-pub comeback_below : (xs : List ℕ) → all_octets xs ≡ true → (tu : ℕ) → comeback_of xs ≡ Given tu → tu < 2 ^ 32
+pub comeback_below : (xs : List ℕ) → all_octets xs ≡ true → (tu : ℕ) → comeback_of xs ≡ Some tu → tu < 2 ^ 32
 comeback_below xs h tu e = rw e at (walk_below (drop 30 xs) 0 (drop_octets 30 xs h))
 
 module _ (xs : List ℕ) (h : all_octets xs ≡ true) where

@@ -1,27 +1,19 @@
--- Laws of the walk over elements, at a position of the frame: how it ends, what it finds, and how it goes on.
+-- Laws of the walk over elements: where no whole element stands first it ends, and else it goes on behind that element.
 -- Assumes nothing.
-use mathlib.Core.Path.{◌≡◌, refl}
-use mathlib.Core.Bool.{true, false, ◌&&◌}
-use mathlib.Core.List.{List, [], ◌∷◌}
-use Prim.Native.Nat.{ℕ, zero, suc, ◌+◌, ◌-◌, ◌<◌, ◌≤◌}
-use native.Mathlib.Numerals.{add-one}
+use mathlib.Core.Path.{◌≡◌, ◌∙◌, refl, sym}
+use mathlib.Core.Bool.{true, false}
+use mathlib.Core.List.{List, [], ◌∷◌, ◌++◌}
+use Prim.Native.Nat.{ℕ, zero, suc, ◌<◌, ◌≤◌}
 use native.Mathlib.Omega.{arith}
-use native.Mathlib.Nat.{add_assoc}
-use lib.Dec.{leb, eqb}
-use borrow.Author.Tests.{le-leb, lt-leb, eqb-true}
-use lib.ListN.{length, get_or, drop, length-drop, drop_of_length-le}
-use lib.Seq.{drop-cons, drop-drop}
+use lib.Dec.{eqb, eqb-suc-zero}
+use borrow.Author.Tests.{le-leb, lt-leb, ltb-true, eqb-true}
+use lib.ListN.{length, length-append, drop}
+use lib.Seq.{take-append-le}
+use Rattle.std.specs.Prelude.{Some, None}
 use Rattle.octets.specs.Pick.{pick}
 use Rattle.octets.specs.Field.{field}
-use Rattle.octets.specs.Element.{ends, walk, wanted_at}
-use Rattle.octets.proofs.Branch.{and_left, and_right}
-use Rattle.octets.specs.declared.element.Comeback.TheVariants.{Given, Absent}
-
--- The first two octets from a position, and the rest.
-pub two : (s : List ℕ) (at : ℕ) → at + 2 ≤ length s → drop at s ≡ get_or s at 0 ∷ get_or s (at + 1) 0 ∷ drop (at + 2) s
-two s at h =
-    let e : at + 2 ≡ suc (at + 1) = omega arith in
-    rw (drop-cons s at 0 (omega arith), e, ← (add-one at), drop-cons s (at + 1) 0 (omega arith))
+use Rattle.octets.specs.Element.{ends, is_comeback, is_cut, walk, wanted_at}
+use Rattle.octets.proofs.Branch.{and_left, and_right, by_bool}
 
 -- Passing k octets.
 pub walk_skip : (xs : List ℕ) (k : ℕ) → walk xs k ≡ walk (drop k xs) 0
@@ -31,48 +23,36 @@ walk_skip [] (suc k) = refl
 walk_skip (x ∷ xs) zero = refl
 walk_skip (x ∷ xs) (suc k) = walk_skip xs k
 
--- One element, by the walk's own clause.
-walk_cons : (x n : ℕ) (rest : List ℕ) → walk (x ∷ n ∷ rest) 0 ≡ pick (leb n (length rest)) (pick (wanted_at (x ∷ n ∷ rest) n) (Given (field 4 1 rest)) (walk rest n)) Absent
+pub walk_cut : (xs : List ℕ) → is_cut xs ≡ true → walk xs 0 ≡ None
 unfolding walk
-walk_cons x n rest = refl
+walk_cut [] h = refl
+walk_cut (x ∷ []) h = refl
+walk_cut (x ∷ n ∷ rest) h = rw (lt-leb n (length rest) (ltb-true (length rest) n h))
 
-module _ (s : List ℕ) (at : ℕ) where
-  pub walk_end : length s ≤ at → Absent ≡ walk (drop at s) 0
-  unfolding walk
-  walk_end h = rw (drop_of_length-le s h)
+walk_past : (c rest : List ℕ) → walk (c ++ rest) (length c) ≡ walk rest 0
+unfolding walk
+walk_past [] rest = refl
+walk_past (x ∷ c) rest = walk_past c rest
 
-  pub walk_one : at < length s → length s - at < 2 → Absent ≡ walk (drop at s) 0
-  unfolding walk
-  walk_one h k = rw (drop-cons s at 0 h, drop_of_length-le s {i = suc at} (omega arith))
+wanted_in : (i : ℕ) (c rest : List ℕ) → wanted_at (i ∷ length c ∷ (c ++ rest)) (length c) ≡ is_comeback i c
+wanted_in i [] rest = refl
+wanted_in i (x ∷ c) rest = refl
 
-  pub walk_cut : at + 2 ≤ length s → length s - at - 2 < get_or s (at + 1) 0 → Absent ≡ walk (drop at s) 0
-  walk_cut h k = rw (two s at h, walk_cons, lt-leb (get_or s (at + 1) 0) (length (drop (at + 2) s)) (simp length-drop (omega arith)))
+value_in : (c rest : List ℕ) → length c ≡ 5 → field 4 1 (c ++ rest) ≡ field 4 1 c
+value_in [] rest h = absurd (omega arith)
+value_in (x ∷ c) rest h =
+    let k : 4 ≤ length c = omega arith in
+    rw (take-append-le 4 c rest k)
 
-  fits : at + 2 + get_or s (at + 1) 0 ≤ length s → leb (get_or s (at + 1) 0) (length (drop (at + 2) s)) ≡ true
-  fits h = le-leb (get_or s (at + 1) 0) (length (drop (at + 2) s)) (simp length-drop (omega arith))
-
-  pub walk_found : at + 2 + get_or s (at + 1) 0 ≤ length s → wanted_at (drop at s) (get_or s (at + 1) 0) ≡ true → Given (field 4 (at + 3) s) ≡ walk (drop at s) 0
-  walk_found h t =
-      let p = two s at (omega arith) in
-      rw (p, walk_cons, fits h, rw p at t, drop-drop, add_assoc at 2 1)
-
-  pub walk_next : at + 2 + get_or s (at + 1) 0 ≤ length s → wanted_at (drop at s) (get_or s (at + 1) 0) ≡ false → walk (drop (at + 2 + get_or s (at + 1) 0) s) 0 ≡ walk (drop at s) 0
-  walk_next h t =
-      let p = two s at (omega arith) in
-      rw (p, walk_cons, fits h, rw p at t, walk_skip (drop (at + 2) s) (get_or s (at + 1) 0), drop-drop)
-
--- A wanted element has length 5.
-pub wanted_five : (xs : List ℕ) (n : ℕ) → wanted_at xs n ≡ true → n ≡ 5
-wanted_five xs n t = eqb-true n 5 (and_left (eqb n 5) (eqb (get_or xs 2 0) 3) (and_right (eqb (get_or xs 0 0) 56) (eqb n 5 && eqb (get_or xs 2 0) 3) t))
+pub walk_next : (i : ℕ) (c rest : List ℕ) → walk (i ∷ length c ∷ (c ++ rest)) 0 ≡ pick (is_comeback i c) (Some (field 4 1 c)) (walk rest 0)
+unfolding walk
+walk_next i c rest =
+    rw (le-leb (length c) (length (c ++ rest)) (simp length-append (omega arith)), wanted_in i c rest, walk_past c rest)
+    (by_bool (is_comeback i c)
+    (λ w. rw (w, value_in c rest (eqb-true (length c) 5 (and_left (eqb (length c) 5) _ (and_right (eqb i 56) _ w)))))
+    (λ w. rw w))
 
 -- ---- whether the walk reaches the end exactly
-
-pub ends_skip : (xs : List ℕ) (k : ℕ) → k ≤ length xs → ends xs k ≡ ends (drop k xs) 0
-unfolding ends
-ends_skip [] zero h = refl
-ends_skip [] (suc k) h = absurd (omega arith)
-ends_skip (x ∷ xs) zero h = refl
-ends_skip (x ∷ xs) (suc k) h = ends_skip xs k (omega arith)
 
 ends_over : (xs : List ℕ) (k : ℕ) → length xs < k → ends xs k ≡ false
 unfolding ends
@@ -81,21 +61,17 @@ ends_over [] (suc k) h = refl
 ends_over (x ∷ xs) zero h = absurd (omega arith)
 ends_over (x ∷ xs) (suc k) h = ends_over xs k (omega arith)
 
-ends_cons : (x n : ℕ) (rest : List ℕ) → ends (x ∷ n ∷ rest) 0 ≡ ends rest n
+pub ends_cut : (xs : List ℕ) → is_cut xs ≡ true → ends xs 0 ≡ eqb (length xs) 0
 unfolding ends
-ends_cons x n rest = refl
+ends_cut [] h = refl
+ends_cut (x ∷ []) h = refl
+ends_cut (x ∷ n ∷ rest) h = ends_over rest n (ltb-true (length rest) n h) ∙ sym (eqb-suc-zero (suc (length rest)))
 
-module _ (s : List ℕ) (at : ℕ) where
-  pub ends_end : length s ≤ at → true ≡ ends (drop at s) 0
-  unfolding ends
-  ends_end h = rw (drop_of_length-le s h)
+ends_past : (c rest : List ℕ) → ends (c ++ rest) (length c) ≡ ends rest 0
+unfolding ends
+ends_past [] rest = refl
+ends_past (x ∷ c) rest = ends_past c rest
 
-  pub ends_one : at < length s → length s - at < 2 → false ≡ ends (drop at s) 0
-  unfolding ends
-  ends_one h k = rw (drop-cons s at 0 h, drop_of_length-le s {i = suc at} (omega arith))
-
-  pub ends_cut : at + 2 ≤ length s → length s - at - 2 < get_or s (at + 1) 0 → false ≡ ends (drop at s) 0
-  ends_cut h k = rw (two s at h, ends_cons, ends_over (drop (at + 2) s) (get_or s (at + 1) 0) (simp length-drop (omega arith)))
-
-  pub ends_next : at + 2 + get_or s (at + 1) 0 ≤ length s → ends (drop (at + 2 + get_or s (at + 1) 0) s) 0 ≡ ends (drop at s) 0
-  ends_next h = rw (two s at (omega arith), ends_cons, ends_skip (drop (at + 2) s) (get_or s (at + 1) 0) (simp length-drop (omega arith)), drop-drop)
+pub ends_next : (i : ℕ) (c rest : List ℕ) → ends (i ∷ length c ∷ (c ++ rest)) 0 ≡ ends rest 0
+unfolding ends
+ends_next i c rest = ends_past c rest

@@ -1,24 +1,23 @@
 -- Worked examples of the definitions, computed.
 -- Assumes nothing.
-use Rattle.std.specs.Prelude.{◌≡◌, refl, true, false, [], ◌∷◌}
+use Rattle.std.specs.Prelude.{◌≡◌, refl, true, false, [], ◌∷◌, Some, None}
 use Rattle.octets.specs.Field.{octets}
 use Rattle.octets.specs.Element.{ends, walk}
 use Rattle.octets.specs.Frame.{aid_field, head_of, body_of, bytes_of}
-use Rattle.octets.specs.declared.element.Comeback.TheVariants.{Given, Absent}
 use Rattle.octets.specs.declared.frame.Body.TheVariants.{Response, Reason}
 
 -- A comeback of 0 is a time.
-comeback_zero : walk (1 ∷ 1 ∷ 9 ∷ 56 ∷ 5 ∷ 3 ∷ 0 ∷ 0 ∷ 0 ∷ 0 ∷ []) 0 ≡ Given 0
+comeback_zero : walk (1 ∷ 1 ∷ 9 ∷ 56 ∷ 5 ∷ 3 ∷ 0 ∷ 0 ∷ 0 ∷ 0 ∷ []) 0 ≡ Some 0
 unfolding walk
 comeback_zero = refl
 
 -- An element that is cut short gives none.
-comeback_cut : walk (56 ∷ 5 ∷ 3 ∷ 0 ∷ []) 0 ≡ Absent
+comeback_cut : walk (56 ∷ 5 ∷ 3 ∷ 0 ∷ []) 0 ≡ None
 unfolding walk
 comeback_cut = refl
 
 -- Another type, another length, then the one that counts.
-comeback_third : walk (56 ∷ 5 ∷ 1 ∷ 9 ∷ 9 ∷ 9 ∷ 9 ∷ 56 ∷ 1 ∷ 3 ∷ 56 ∷ 5 ∷ 3 ∷ 0 ∷ 1 ∷ 0 ∷ 0 ∷ 7 ∷ []) 0 ≡ Given 256
+comeback_third : walk (56 ∷ 5 ∷ 1 ∷ 9 ∷ 9 ∷ 9 ∷ 9 ∷ 56 ∷ 1 ∷ 3 ∷ 56 ∷ 5 ∷ 3 ∷ 0 ∷ 1 ∷ 0 ∷ 0 ∷ 7 ∷ []) 0 ≡ Some 256
 unfolding walk
 comeback_third = refl
 

@@ -1,6 +1,6 @@
 -- A frame's fields, read back from its octets: what the round trip is about.
 -- Assumes nothing.
-use Rattle.std.specs.Prelude.{ℕ, ◌+◌, ◌/◌, ◌%◌, ◌<◌, ◌^◌, ◌≡◌, List, eqb, length}
+use Rattle.std.specs.Prelude.{ℕ, ◌+◌, ◌/◌, ◌%◌, ◌<◌, ◌^◌, ◌≡◌, List, eqb, length, Option, Some, None}
 use Rattle.octets.specs.Pick.{pick}
 use Rattle.octets.specs.Field.{field}
 use Rattle.octets.specs.Heard.{heard_of}
@@ -12,8 +12,6 @@ use Rattle.octets.specs.declared.frame.Body.TheVariants.{Authentication, Associa
 use Rattle.octets.specs.declared.heard.Kind.TheVariants.{Association, Reassociation}
 use Rattle.octets.specs.declared.heard.Heard.{Heard}
 use Rattle.octets.specs.declared.heard.Heard.TheVariants as heard
-use Rattle.octets.specs.declared.element.Comeback.{Comeback}
-use Rattle.octets.specs.declared.element.Comeback.TheVariants.{Given, Absent}
 
 -- A body of the given one's kind, read from octet 24 on.
 abbrev pub body_like : Body → List ℕ → Body
@@ -53,9 +51,9 @@ pub record FrameFits (f : Frame) : Type 0 where
   pub body : BodyFits f.body
 
 -- The same of what is heard.
-abbrev pub ComebackFits : Comeback → Type 0
-ComebackFits (Given tu) = tu < 2 ^ 32
-ComebackFits Absent = Unit
+abbrev pub ComebackFits : Option ℕ → Type 0
+ComebackFits (Some tu) = tu < 2 ^ 32
+ComebackFits None = Unit
 
 abbrev pub HeardFits : Heard → Type 0
 HeardFits heard.Other = Unit
@@ -72,10 +70,10 @@ pub data Says (c : ℕ) : ℕ → Body → Heard → Type 0 where
   authentication : {a t s : ℕ} → Says c 11 (Authentication a t s) (heard.Authentication a t s)
   association_request : Says c 0 (AssociationRequest c) (heard.Request Association 0)
   reassociation_request : {a : ℕ} → Says c 2 (ReassociationRequest c a) (heard.Request Reassociation a)
-  association_response : {s a : ℕ} → Says c 1 (Response c s a) (heard.Response Association s a Absent)
-  reassociation_response : {s a : ℕ} → Says c 3 (Response c s a) (heard.Response Reassociation s a Absent)
-  association_later : {s t : ℕ} → Says c 1 (Later c s t) (heard.Response Association s 0 (Given t))
-  reassociation_later : {s t : ℕ} → Says c 3 (Later c s t) (heard.Response Reassociation s 0 (Given t))
+  association_response : {s a : ℕ} → Says c 1 (Response c s a) (heard.Response Association s a None)
+  reassociation_response : {s a : ℕ} → Says c 3 (Response c s a) (heard.Response Reassociation s a None)
+  association_later : {s t : ℕ} → Says c 1 (Later c s t) (heard.Response Association s 0 (Some t))
+  reassociation_later : {s t : ℕ} → Says c 3 (Later c s t) (heard.Response Reassociation s 0 (Some t))
   deauthentication : {r : ℕ} → Says c 12 (Reason r) (heard.Deauthentication r)
   disassociation : {r : ℕ} → Says c 10 (Reason r) (heard.Disassociation r)
   query_request : {i : ℕ} → Says c 13 (Query 0 i) (heard.QueryRequest i)
@@ -97,8 +95,8 @@ Unheard (heard.Response k s a b) c xs = (field 2 24 xs ≡ c) × (field 2 28 xs 
 -- How many octets a frame has beyond the least of its type and subtype: "no elements" but a Timeout Interval, of 7; and a query's category,
 -- action and identifier.
 abbrev pub more_of : Heard → ℕ
-more_of (heard.Response k s a (Given t)) = 7
-more_of (heard.Response k s a Absent) = 0
+more_of (heard.Response k s a (Some t)) = 7
+more_of (heard.Response k s a None) = 0
 more_of (heard.QueryRequest i) = 4
 more_of (heard.QueryResponse i) = 4
 more_of heard.Other = 0

@@ -5,7 +5,8 @@ ghost use Rattle.octets.specs.Class.{is_public_action, class_of, class_number, c
 
 use crate::field::octet_at;
 
-#[derive(Clone, Copy)]
+// Four cases, and no Option of three: each has a number, 0 of none (`number_of`), and `classless` and `named` are of all four.
+#[derive(Clone, Copy, PartialEq, Eq)]
 pub enum FrameClass {
     // No class: discarded.
     None,
@@ -105,23 +106,16 @@ pub fn listed(first: u8) -> FrameClass
 }
 
 // Whether a frame, whose first octet is given, is an unprotected Public Action.
+#[tactic(auto, unfolding(crate::specs::Class::is_public_action))]
 fn public_action(first: u8, frame: &[u8]) -> bool
     requires { first ≡ field 1 0 frame.now }
     ensures { result ≡ is_public_action frame.now }
 {
-    if first / 4 % 4 != 0 {
-        return false;
-    }
-    if first / 16 != 13 {
-        return false;
-    }
-    if octet_at(frame, 1) / 64 % 2 != 0 {
-        return false;
-    }
-    if frame.len() < 25 {
-        return false; // no category
-    }
-    octet_at(frame, 24) == 4
+    first / 4 % 4 == 0
+        && first / 16 == 13
+        && octet_at(frame, 1) / 64 % 2 == 0
+        && 25 <= frame.len() // it has a category
+        && octet_at(frame, 24) == 4
 }
 
 // The class of a frame, from its octets: none where its version is not 0.
@@ -139,14 +133,15 @@ pub fn class(frame: &[u8]) -> FrameClass
 }
 
 // Whether two stations may send each other a frame without an access point.
+#[tactic(auto, unfolding(crate::specs::Class::is_direct))]
 fn direct(frame: &[u8]) -> bool
     ensures { result ≡ is_direct frame.now }
 {
     let first = octet_at(frame, 0);
     let subtype = first / 16;
     match first / 4 % 4 {
-        0 => { if subtype == 13 { true } else { subtype == 14 } }
-        1 => { if subtype == 8 { true } else { subtype == 9 } }
+        0 => subtype == 13 || subtype == 14,
+        1 => subtype == 8 || subtype == 9,
         _ => octet_at(frame, 1) % 4 == 0,
     }
 }
@@ -155,17 +150,10 @@ fn direct(frame: &[u8]) -> bool
 fn direct_class(frame: &[u8], k: FrameClass) -> FrameClass
     ensures { result ≡ direct_class frame.now k }
 {
-    match k {
-        FrameClass::None => FrameClass::None,
-        FrameClass::One => FrameClass::One,
-        FrameClass::Two => FrameClass::Two,
-        FrameClass::Three => {
-            if direct(frame) {
-                FrameClass::One
-            } else {
-                FrameClass::Three
-            }
-        }
+    if k == FrameClass::Three && direct(frame) {
+        FrameClass::One
+    } else {
+        k
     }
 }
 
@@ -185,10 +173,5 @@ pub fn class_in(infrastructure: bool, frame: &[u8]) -> FrameClass
 pub fn is_none(k: FrameClass) -> bool
     ensures { result ≡ classless k }
 {
-    match k {
-        FrameClass::None => true,
-        FrameClass::One => false,
-        FrameClass::Two => false,
-        FrameClass::Three => false,
-    }
+    k == FrameClass::None
 }

@@ -1,88 +1,72 @@
 // The elements of a (re)association response: id, length, contents, one after the other from octet 30 on.
-ghost use Rattle.std.specs.Prelude.{◌≡◌, ◌+◌, ◌≤◌, length, drop};
-ghost use Rattle.octets.specs.Element.{wanted_at, comeback_of, ends, is_response, broken_of};
+ghost use Rattle.std.specs.Prelude.{◌≡◌, ◌∷◌, ◌++◌, true, MatchOption, length, drop};
+ghost use Rattle.octets.specs.Element.{is_comeback, is_cut, comeback_of, ends, is_response, broken_of};
 
 use crate::field::{octet_at, u32_at};
 
-// The time in TU after which a rejected station may ask again. 0 is a time: it may ask at once.
-#[derive(Clone, Copy)]
-pub enum Comeback {
-    Given(u32),
-    Absent,
-}
-
-// Whether the element at `at`, of length n, has id 56, length 5 and type 3.
-fn wanted(s: &[u8], at: usize, n: usize) -> bool
-    requires { at + 2 + n ≤ length s.now }
-    ensures { result ≡ wanted_at (drop at s.now) n }
+// The octets after octet 29.
+fn elements(frame: &[u8]) -> &[u8]
+    ensures { result.now ≡ drop 30 frame.now }
 {
-    if s[at] != 56 {
-        return false;
-    }
-    if n != 5 {
-        return false;
-    }
-    s[at + 2] == 3
+    if frame.len() < 30 { &[] } else { &frame[30..] }
 }
 
-// The value of the first element of id 56, length 5 and type 3 after octet 29.
-pub fn first_comeback(s: &[u8]) -> Comeback
+// The id and the contents of the element that octets begin with, and what stands behind it; none where no whole element stands there.
+fn split_element(s: &[u8]) -> Option<(u8, &[u8], &[u8])>
+    ensures { MatchOption result (is_cut s.now ≡ true) (λ e. s.now ≡ e.0 ∷ length e.1.now ∷ (e.1.now ++ e.2.now)) }
+{
+    let [id, size, rest @ ..] = s else {
+        return None; // an id without a length, or no octet
+    };
+    let (contents, behind) = rest.split_at_checked(usize::from(*size))?;
+    Some((*id, contents, behind))
+}
+
+// Whether an element has id 56, length 5 and type 3.
+fn is_comeback(id: u8, contents: &[u8]) -> bool
+    ensures { result ≡ is_comeback id contents.now }
+{
+    id == 56 && contents.len() == 5 && contents[0] == 3
+}
+
+// The value of the first element of id 56, length 5 and type 3 after octet 29: the time in TU after which a rejected station may ask again.
+// 0 is a time: it may ask at once.
+pub fn first_comeback(s: &[u8]) -> Option<u32>
     ensures { result ≡ comeback_of s.now }
 {
-    let mut at: usize = 30;
-    while at < s.len() {
-        if s.len() - at < 2 {
-            return Comeback::Absent;
+    let mut rest = elements(s);
+    while let Some((id, contents, behind)) = split_element(rest) {
+        if is_comeback(id, contents) {
+            return Some(u32_at(contents, 1));
         }
-        let n = s[at + 1] as usize;
-        if s.len() - at - 2 < n {
-            return Comeback::Absent;
-        }
-        if wanted(s, at, n) {
-            return Comeback::Given(u32_at(s, at + 3));
-        }
-        at = at + 2 + n;
+        rest = behind;
     }
-    Comeback::Absent
+    None
 }
 
 // Whether the elements after octet 29 end with the frame.
 fn whole(s: &[u8]) -> bool
     ensures { result ≡ ends (drop 30 s.now) 0 }
 {
-    let mut at: usize = 30;
-    while at < s.len() {
-        if s.len() - at < 2 {
-            return false; // an id without a length
-        }
-        let size = s[at + 1] as usize;
-        if s.len() - at - 2 < size {
-            return false; // it would pass the end
-        }
-        at = at + 2 + size;
+    let mut rest = elements(s);
+    while let Some((_, _, behind)) = split_element(rest) {
+        rest = behind;
     }
-    true
+    rest.is_empty()
 }
 
 // Whether a frame is a (re)association response, by its first octet.
+#[tactic(auto, unfolding(crate::specs::Element::is_response))]
 fn response(first: u8) -> bool
     ensures { result ≡ is_response first }
 {
-    if first / 4 % 4 != 0 {
-        return false;
-    }
-    if first / 16 == 1 {
-        return true;
-    }
-    first / 16 == 3
+    first / 4 % 4 == 0 && (first / 16 == 1 || first / 16 == 3)
 }
 
 // Whether a frame is a (re)association response whose elements do not end with it.
+#[tactic(auto, unfolding(crate::specs::Element::broken_of))]
 pub fn broken(frame: &[u8]) -> bool
     ensures { result ≡ broken_of frame.now }
 {
-    if response(octet_at(frame, 0)) {} else {
-        return false;
-    }
-    if whole(frame) { false } else { true }
+    response(octet_at(frame, 0)) && !whole(frame)
 }

@@ -8,6 +8,7 @@ pub fn octet_at(s: &[u8], at: usize) -> u8
     if at < s.len() { s[at] } else { 0 }
 }
 
+// One function for each width, as in put.rt.
 pub fn u16_at(s: &[u8], at: usize) -> u16
     ensures { result ≡ field 2 at s.now }
 {

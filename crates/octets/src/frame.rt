@@ -5,7 +5,7 @@ ghost use Rattle.octets.specs.Frame.{aid_field, capability_of, comeback_element,
 
 use crate::put::{put_address, put_octet, put_u16, put_u32};
 
-#[derive(Clone, Copy)]
+#[derive(Clone, Copy, PartialEq, Eq)]
 pub enum Body {
     Authentication {
         algorithm: u16,
@@ -40,7 +40,7 @@ pub enum Body {
     },
 }
 
-#[derive(Clone, Copy)]
+#[derive(Clone, Copy, PartialEq, Eq)]
 pub struct Frame {
     pub subtype: u8,
     pub address1: u64,
@@ -51,6 +51,7 @@ pub struct Frame {
 
 impl Frame {
     // The standard's management subtypes.
+    // Numbers: `write` promises `written_of` for any subtype and action, and an enum would ask more of its callers.
     pub const ASSOCIATION_REQUEST: u8 = 0;
 
     pub const ASSOCIATION_RESPONSE: u8 = 1;

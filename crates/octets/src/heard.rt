@@ -2,19 +2,19 @@
 ghost use Rattle.std.specs.Prelude.{◌≡◌};
 ghost use Rattle.octets.specs.Heard.{authentication_of, query_of, response_of, heard_of};
 
-use crate::element::{Comeback, first_comeback};
+use crate::element::first_comeback;
 use crate::field::{address_at, octet_at, u16_at};
 use crate::frame::Frame;
 
 // The three exchanges, each a request and a response.
-#[derive(Clone, Copy)]
+#[derive(Clone, Copy, PartialEq, Eq)]
 pub enum Kind {
     Authentication,
     Association,
     Reassociation,
 }
 
-#[derive(Clone, Copy)]
+#[derive(Clone, Copy, PartialEq, Eq)]
 pub enum Heard {
     Other,
     Authentication {
@@ -29,12 +29,12 @@ pub enum Heard {
         kind: Kind,
         current: u64,
     },
-    // A (re)association response; of the AID the low 14 bits.
+    // A (re)association response; of the AID the low 14 bits. The comeback is a time in TU, where one is given, and 0 is a time.
     Response {
         kind: Kind,
         status: u16,
         aid: u16,
-        comeback: Comeback,
+        comeback: Option<u32>,
     },
     // An SA Query, with its identifier.
     QueryRequest(u16),

@@ -2,7 +2,8 @@
 ghost use Rattle.std.specs.Prelude.{◌≡◌, get_or};
 ghost use Rattle.octets.specs.Links.{links_of, no_links, unlinked};
 
-#[derive(Clone, Copy)]
+// Four fields, and 0 for no link: `links_of` and `links_at` name them, and so a row crosses to C.
+#[derive(Clone, Copy, PartialEq, Eq)]
 pub struct Links {
     pub one: u64,
     pub two: u64,
@@ -39,18 +40,10 @@ impl Links {
     }
 
     // Whether no slot has a link.
+    #[tactic(auto, unfolding(crate::specs::Links::no_links))]
     pub fn is_none(self) -> bool
         ensures { result ≡ no_links self }
     {
-        if self.one != 0 {
-            return false;
-        }
-        if self.two != 0 {
-            return false;
-        }
-        if self.three != 0 {
-            return false;
-        }
-        self.four == 0
+        self == Links::none()
     }
 }

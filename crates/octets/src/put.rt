@@ -10,6 +10,7 @@ pub(crate) fn put_octet(out: &mut [u8], at: usize, v: u8)
     out[at] = v;
 }
 
+// One function over the width, by `copy_from_slice`, was tried: for wasm32 the kit's clang makes no valid code of it, and a Cortex-M0+ took 56,662 octets for 39,950.
 pub(crate) fn put_u16(out: &mut [u8], at: usize, v: u16)
     requires { at + 2 ≤ length out.old }
     ensures { Stored out.old at (octets 2 v) out.new }

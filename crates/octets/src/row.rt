@@ -9,7 +9,7 @@ use crate::links::Links;
 use crate::put::{put_address, put_octet, put_u16, put_u32, put_u64};
 pub use crate::vacant::{blank_at, blank_four, linkless_at, linkless_four};
 
-#[derive(Clone, Copy)]
+#[derive(Clone, Copy, PartialEq, Eq)]
 pub struct Row {
     pub address: u64,
     pub hold: u32,
@@ -27,6 +27,7 @@ impl Row {
     pub const OCTETS: usize = 48;
 }
 
+// One function for each width, as in put.rt.
 fn half(s: &[u8], at: usize) -> u16
     requires { at + 2 ≤ length s.now }
     ensures { result ≡ field 2 at s.now }
@@ -48,6 +49,7 @@ pub(crate) fn long(s: &[u8], at: usize) -> u64
     word(s, at) as u64 + 4294967296 * (word(s, at + 4) as u64)
 }
 
+// Slice and place are two here and below: `row_at` and `put_row` promise for any place, and test the room themselves.
 fn six(s: &[u8], at: usize) -> u64
     requires { at + 6 ≤ length s.now }
     ensures { result ≡ field 6 at s.now }
@@ -71,10 +73,7 @@ fn links_at(s: &[u8], at: usize) -> Links
 pub(crate) fn has_room(lent: usize, at: usize, n: usize) -> bool
     ensures { result ≡ leb (at + n) lent }
 {
-    if lent < n {
-        return false;
-    }
-    if lent - n < at { false } else { true }
+    n <= lent && at <= lent - n
 }
 
 // Whether there is room for a row at a place.
@@ -85,10 +84,11 @@ pub(crate) fn has_row(lent: usize, at: usize) -> bool
 }
 
 // The row at a place; all zero where the octets end before it does.
+#[tactic(auto, unfolding(crate::specs::Row::row_at))]
 pub fn row_at(s: &[u8], at: usize) -> Row
     ensures { result ≡ row_at at s.now }
 {
-    if has_row(s.len(), at) {} else {
+    if !has_row(s.len(), at) {
         return Row {
             address: 0,
             hold: 0,
@@ -115,6 +115,7 @@ pub fn row_at(s: &[u8], at: usize) -> Row
 }
 
 // The address of the row at a place; 0 where the octets end before it does.
+#[tactic(auto, unfolding(crate::specs::Row::row_at))]
 pub fn address_in(s: &[u8], at: usize) -> u64
     ensures { result ≡ (row_at at s.now).address }
 {
@@ -122,13 +123,11 @@ pub fn address_in(s: &[u8], at: usize) -> u64
 }
 
 // The link in a slot of the row at a place; 0 where the octets end before it does, or there is no such slot.
+#[tactic(auto, unfolding(crate::specs::Row::row_at))]
 pub fn link_in(s: &[u8], at: usize, j: usize) -> u64
     ensures { result ≡ get_or (links_of (row_at at s.now).links) j 0 }
 {
-    if has_row(s.len(), at) {} else {
-        return 0;
-    }
-    if j < Links::SLOTS {
+    if has_row(s.len(), at) && j < Links::SLOTS {
         six(s, at + 24 + 6 * j)
     } else {
         0
@@ -169,23 +168,24 @@ fn put_fields(out: &mut [u8], at: usize, row: Row)
 }
 
 // Stores a row at a place but for its links, where there is room for the row.
+#[tactic(auto, unfolding(crate::specs::Row::head_in))]
 pub fn put_head(out: &mut [u8], at: usize, row: Row)
     ensures { out.new ≡ head_in at row out.old }
 {
-    if has_row(out.len(), at) {} else {
+    if !has_row(out.len(), at) {
         return;
     }
     put_fields(out, at, row);
 }
 
 // Stores a row at a place, where there is room for it.
+#[tactic(auto, unfolding(crate::specs::Row::row_in))]
 pub fn put_row(out: &mut [u8], at: usize, row: Row)
     ensures { out.new ≡ row_in at row out.old }
 {
-    if has_row(out.len(), at) {} else {
+    if !has_row(out.len(), at) {
         return;
     }
     put_fields(&mut *out, at, row);
-    let links = row.links;
-    put_links(out, at + 24, links);
+    put_links(out, at + 24, row.links);
 }

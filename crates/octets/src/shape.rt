@@ -5,7 +5,7 @@ ghost use Rattle.octets.specs.Shape.{least_of, least_management, is_bare, shape_
 use crate::class::{class, is_none};
 use crate::field::octet_at;
 
-#[derive(Clone, Copy)]
+#[derive(Clone, Copy, PartialEq, Eq)]
 pub enum Shape {
     // Too short or too long.
     Misfit,
@@ -18,59 +18,48 @@ pub enum Shape {
 }
 
 // The least length of a management frame, by its subtype.
+#[tactic(auto, unfolding(crate::specs::Shape::least_management))]
 fn least_management(subtype: u8) -> usize
     ensures { result ≡ least_management subtype }
 {
     match subtype {
         0 => 28,
-        1 => 30,
         2 => 34,
-        3 => 30,
-        10 => 26,
-        11 => 30,
-        12 => 26,
+        1 | 3 | 11 => 30,
+        10 | 12 => 26,
         _ => 24,
     }
 }
 
 // Whether a frame is CTS or ACK, by its first octet.
+#[tactic(auto, unfolding(crate::specs::Shape::is_bare))]
 fn bare(first: u8) -> bool
     ensures { result ≡ is_bare first }
 {
-    if first / 4 % 4 != 1 {
-        return false;
-    }
-    if first / 16 == 12 {
-        return true;
-    }
-    first / 16 == 13
+    first / 4 % 4 == 1 && (first / 16 == 12 || first / 16 == 13)
 }
 
 // The least length of a frame, by the type and subtype of its first octet.
+#[tactic(auto, unfolding(crate::specs::Shape::least_of))]
 pub fn least(first: u8) -> usize
     ensures { result ≡ least_of first }
 {
     if bare(first) {
         return 10;
     }
-    let kind = first / 4 % 4;
-    if kind == 1 {
-        return 16;
+    match first / 4 % 4 {
+        0 => least_management(first / 16),
+        1 => 16,
+        _ => 24,
     }
-    if kind == 0 {
-        return least_management(first / 16);
-    }
-    24
 }
 
 // The shape of a frame, from its octets.
+#[tactic(auto, unfolding(crate::specs::Shape::shape_of))]
 pub fn measure(frame: &[u8]) -> Shape
     ensures { result ≡ shape_of frame.now }
 {
-    if frame.len() < 10 {
-        return Shape::Misfit;
-    }
-    if 4096 < frame.len() {
+    if frame.len() < 10 || 4096 < frame.len() {
         return Shape::Misfit;
     }
     let k = class(frame);

@@ -5,7 +5,7 @@ ghost use Rattle.octets.specs.Sort.{class_by, is_listed, sort_of};
 use crate::class::{FrameClass, class_in, listed};
 use crate::field::octet_at;
 
-#[derive(Clone, Copy)]
+#[derive(Clone, Copy, PartialEq, Eq)]
 pub enum Sort {
     // From the type and subtype in Frame Control's first octet, which is this.
     Listed(u8),
@@ -14,22 +14,13 @@ pub enum Sort {
 }
 
 // Whether Frame Control alone decides the class.
+#[tactic(auto, unfolding(crate::specs::Sort::is_listed))]
 fn is_listed(infrastructure: bool, first: u8, second: u8) -> bool
     ensures { result ≡ is_listed infrastructure first second }
 {
-    if infrastructure {} else {
-        return false;
-    }
-    if first % 4 != 0 {
-        return false;
-    }
-    if first / 4 % 4 != 0 {
-        return true;
-    }
-    if first / 16 != 13 {
-        return true;
-    }
-    second / 64 % 2 != 0
+    infrastructure
+        && first % 4 == 0
+        && (first / 4 % 4 != 0 || first / 16 != 13 || second / 64 % 2 != 0)
 }
 
 // How the class of a frame is known, where there are access points or in an ad hoc network.

@@ -1,6 +1,7 @@
 -- Demand 2's round trip, of the frames that primitives send: what the other end hears of one is what document 01 says of its number, code, AID,
 -- associated AP and identifier (`asked_says`), with its addresses and every other octet (`ask_said`).
 -- Assumes nothing.
+use Rattle.std.specs.Prelude.{None}
 use Rattle.std.proofs.Common.{◌≡◌, ℕ, ◌^◌, ◌<◌, ◌≤◌, Bool, true, false, ◌||◌, eqb, ltb, [], ◌∷◌, refl, arith, eqb-true}
 use Rattle.octets.proofs.Branch.{by_bool, pick_both}
 use Rattle.octets.specs.Address.{valid_of}
@@ -9,7 +10,6 @@ use Rattle.octets.specs.Frame.{body_of, bytes_of, capability_of, head_of}
 use Rattle.octets.specs.Links.{unlinked}
 use Rattle.octets.specs.Pick.{pick}
 use Rattle.octets.specs.Read.{BodyFits, Says, association_request, association_response, authentication, deauthentication, disassociation, query_request, reassociation_request, reassociation_response}
-use Rattle.octets.specs.declared.element.Comeback.TheVariants.{Absent}
 use Rattle.octets.specs.declared.frame.Body.TheVariants as body
 use Rattle.octets.specs.declared.frame.Body.{Body}
 use Rattle.octets.specs.declared.heard.Heard.TheVariants as heard
@@ -44,9 +44,9 @@ module _ (s : Settings) (fit : settings_fit s ≡ true) (p : Record) (valid : va
   to r low h = sent s fit p.address valid r low h
 
   responded :
-      (k : Kind) → ((status aid : ℕ) → Says (capability_of s.rsna) (response_subtype k) (body.Response (capability_of s.rsna) status aid) (heard.Response k status aid Absent))
+      (k : Kind) → ((status aid : ℕ) → Says (capability_of s.rsna) (response_subtype k) (body.Response (capability_of s.rsna) status aid) (heard.Response k status aid None))
       → response_subtype k < 16 → (aid code : ℕ) → aid < 2 ^ 14 → code < 2 ^ 16
-      → Turned (respond_of s aid p k code) (heard.Response k code (pick (eqb code 0) aid 0) Absent)
+      → Turned (respond_of s aid p k code) (heard.Response k code (pick (eqb code 0) aid 0) None)
   unfolding respond_of awaited_of declined_of response_to turn_of
   responded k says low aid code small short = by_bool (eqb code 0)
       (λ e. rw (eqb-true code 0 e) (to (says 0 aid) low (capability_below s.rsna, omega arith, small)))

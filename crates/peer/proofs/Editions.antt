@@ -5,14 +5,13 @@
 --     second-joined, second-silent, first-left         who is associated stays so in edition 2, and no word is sent; edition 1 tells "left"
 --     heard-rejection                                  a station that hears a rejection goes to State 2
 -- Assumes nothing.
+use Rattle.std.specs.Prelude.{Option, None}
 use Rattle.std.proofs.Common.{◌≡◌, ℕ, ◌≤◌, Bool, true, false, not, ◌&&◌, eqb, ltb, leb, refl, arith, le-ltb, ne_eqb, eqb-true, leb-true}
 use borrow.Author.Tests.{eqb-false, not-true}
 use Rattle.octets.proofs.Branch.{by_bool, pick_both, pick_by}
 use Rattle.octets.specs.Address.{valid_of}
 use Rattle.octets.specs.Links.{no_links, unlinked}
 use Rattle.octets.specs.Pick.{pick}
-use Rattle.octets.specs.declared.element.Comeback.TheVariants.{Absent}
-use Rattle.octets.specs.declared.element.Comeback.{Comeback}
 use Rattle.octets.specs.declared.heard.Kind.TheVariants.{Association, Reassociation}
 use Rattle.octets.specs.declared.heard.Kind.{Kind}
 use Rattle.peer.specs.Ask.{ask_of, declined_move, declined_of, respond_of}
@@ -109,7 +108,7 @@ module _ (s : Settings) (aid : ℕ) (p : Record) (o : Others) (q code : ℕ) (r 
 
 -- A station that hears a rejection goes to State 2, whatever its edition.
 pub heard_rejection :
-    (s : Settings) (p : Record) (k : Kind) (status aid : ℕ) (c : Comeback) → is_sent k p.exchange ≡ true → (status ≡ 0 → ⊥)
+    (s : Settings) (p : Record) (k : Kind) (status aid : ℕ) (c : Option ℕ) → is_sent k p.exchange ≡ true → (status ≡ 0 → ⊥)
     → (response_heard s p k status aid c).peer.state ≡ 2
 unfolding response_heard rejected_of turn_of ended_of changed_of
 heard_rejection s p k status aid c sent other = rw (sent, ne_eqb status 0 other)
@@ -156,6 +155,6 @@ four_silent = second_silent (site 2 0) 1 (asking 4) nobody 8 1 refl refl
 -- .. and a station in State 4 that has asked for association again hears status 1.
 heard_two :
     (response_heard (record { own = 2; network = 0; authentication = 100; association = 100; role = 2; rsna = 0; edition = 2; protection = 1; retry = 201; maximum = 1000 })
-    (record { address = 4; state = 4; exchange = Sent Association; left = 9; hold = 0; query = query.None; identifier = 0; links = unlinked }) Association 1 0 Absent).peer.state
+    (record { address = 4; state = 4; exchange = Sent Association; left = 9; hold = 0; query = query.None; identifier = 0; links = unlinked }) Association 1 0 None).peer.state
     ≡ 2
-heard_two = heard_rejection _ _ Association 1 0 Absent refl (λ (z : 1 ≡ 0). omega arith)
+heard_two = heard_rejection _ _ Association 1 0 None refl (λ (z : 1 ≡ 0). omega arith)

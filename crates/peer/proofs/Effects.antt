@@ -1,12 +1,12 @@
 -- Where there is nothing to do for a frame (specs/Idle.antt), its turn leaves the record, tells nothing and says nothing; where there is something, it
 -- tells our own side, says something, or ends a query.
 -- Assumes nothing.
-use Rattle.std.proofs.Common.{◌≡◌, ℕ, Bool, true, false, not, ◌&&◌, ◌||◌, eqb, ltb, sym, refl, ◌∙◌, arith, le-ltb, lt-ltb, eqb-true, leb-false, leb-true}
+use Rattle.std.specs.Prelude.{Option}
+use Rattle.std.proofs.Common.{◌≡◌, ℕ, Bool, true, false, not, ◌&&◌, ◌||◌, eqb, ltb, sym, refl, ◌∙◌, arith, le-ltb, lt-ltb, eqb-true, leb-false, leb-true, Some}
 use mathlib.Core.Bool.{or-false}
 use borrow.Author.Tests.{not-false, not-true}
 use Rattle.octets.proofs.Branch.{and_left, and_right, by_bool, pick_both, pick_by}
 use Rattle.octets.specs.declared.class.FrameClass.{FrameClass}
-use Rattle.octets.specs.declared.element.Comeback.{Comeback}
 use Rattle.octets.specs.declared.frame.Frame.{Frame}
 use Rattle.octets.specs.declared.heard.Heard.TheVariants as heard
 use Rattle.octets.specs.declared.heard.Heard.{Heard}
@@ -27,7 +27,6 @@ use Rattle.peer.specs.Settings.{role_answers}
 use Rattle.peer.specs.Turn.{admit, confirm_of, indication_of, replied_of, sole_of, still_of, turn_of}
 use Rattle.peer.specs.declared.query.Query.TheVariants as query
 use Rattle.peer.specs.declared.record.Record.{Record}
-use Rattle.peer.specs.declared.reply.Reply.TheVariants.{Send}
 use Rattle.peer.specs.declared.settings.Settings.{Settings}
 use Rattle.peer.specs.declared.turn.Turn.{Turn}
 use Rattle.peer.proofs.Fits.{both, clash, or_left}
@@ -35,7 +34,7 @@ use Rattle.peer.proofs.Fits.{both, clash, or_left}
 -- What a turn does: our own side is told, something is said, or a query that runs is ended.
 pub data Done (p : Record) (t : Turn) : Type 0 where
   told : (t.told.notice ≡ 0 → ⊥) → Done p t
-  said : (f : Frame) → t.reply ≡ Send f → Done p t
+  said : (f : Frame) → t.reply ≡ Some f → Done p t
   ended : is_running p.query ≡ true → t.peer.query ≡ query.None → Done p t
 
 indicated : (k : Kind) → indication_of k ≡ 0 → ⊥
@@ -63,7 +62,7 @@ module _ (s : Settings) (p : Record) where
       (λ r. let z = both (eqb a 0) _ r in let y = both (eqb t 2) _ z.1 in clash y.1 (rw (eqb-true t 2 y.0, z.0) at e))
       (λ r. refl))
 
-  response_idle : (k : Kind) (status aid : ℕ) (c : Comeback) → response_acts p k status aid ≡ false → Still (response_heard s p k status aid c)
+  response_idle : (k : Kind) (status aid : ℕ) (c : Option ℕ) → response_acts p k status aid ≡ false → Still (response_heard s p k status aid c)
   unfolding Still response_heard accepted_of response_acts
   response_idle k status aid c e =
       pick_by Still (is_sent k p.exchange)
@@ -96,7 +95,7 @@ module _ (s : Settings) (p : Record) where
       (λ o. clash (rw o at e) (rw o at r))
       (λ o. let z = both (eqb t 2) _ (rw o at e) in let x = both (eqb a 0) _ z.1 in clash refl (rw (x.0, z.0, x.1) at y))))
 
-  response_acts_lem : (k : Kind) (status aid : ℕ) (c : Comeback) → response_acts p k status aid ≡ true → Done p (response_heard s p k status aid c)
+  response_acts_lem : (k : Kind) (status aid : ℕ) (c : Option ℕ) → response_acts p k status aid ≡ true → Done p (response_heard s p k status aid c)
   unfolding response_heard accepted_of rejected_of response_acts sole_of turn_of
   response_acts_lem k status aid c e =
       pick_by (Done p) (is_sent k p.exchange)

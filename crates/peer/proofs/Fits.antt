@@ -1,6 +1,7 @@
 -- What one record must be, as facts; and a record that comes of another and keeps them.
 -- Assumes nothing.
-use Rattle.std.proofs.Common.{◌≡◌, ℕ, ◌≤◌, Bool, true, false, not, ◌&&◌, ◌||◌, eqb, leb, sym, refl, ◌∙◌, arith, eqb-true, le-leb, leb-true}
+use Rattle.std.proofs.Common.{◌≡◌, ℕ, ◌≤◌, Bool, true, false, not, ◌&&◌, eqb, leb, sym, refl, ◌∙◌, arith, eqb-true, le-leb, leb-true}
+pub use Rattle.std.proofs.lemmas.Bool.{and_parts as both, and_right as and_none, or_parts as or_left, or_right}
 use Rattle.octets.specs.Address.{valid_of}
 use Rattle.octets.specs.declared.heard.Kind.TheVariants.{Association, Authentication, Reassociation}
 use Rattle.octets.specs.declared.heard.Kind.{Kind}
@@ -15,26 +16,10 @@ use Rattle.peer.specs.declared.settings.Settings.{Settings}
 use Rattle.peer.proofs.QueryFits.{in_fits}
 
 pub wrong : {P : Type 0} → ◌≡◌ {A = Bool} false true → P
-wrong h = let z : ◌≡◌ {A = ℕ} 0 1 = cc in absurd (omega arith)
+wrong h = cc
 
 pub clash : {P : Type 0} {b : Bool} → b ≡ true → b ≡ false → P
 clash t f = wrong (sym f ∙ t)
-
-pub both : (a b : Bool) → (a && b) ≡ true → (a ≡ true) × (b ≡ true)
-both true b h = (refl, h)
-both false b h = wrong h
-
-pub or_left : (a b : Bool) → (a || b) ≡ false → (a ≡ false) × (b ≡ false)
-or_left true b h = wrong (sym h)
-or_left false b h = (refl, h)
-
-pub and_none : (a b : Bool) → b ≡ false → (a && b) ≡ false
-and_none true b h = h
-and_none false b h = refl
-
-pub or_right : (a b : Bool) → b ≡ true → (a || b) ≡ true
-or_right true b h = refl
-or_right false b h = h
 
 -- the clauses of `record_fits`
 pub record Fits (s : Settings) (p : Record) : Type 0 where

@@ -1,13 +1,13 @@
 -- 01, Settings, table, clock, of "Well formed": "Each step keeps this." A frame, at one peer.
 -- Assumes nothing.
+use Rattle.std.specs.Prelude.{Option, Some, None}
 use Rattle.std.proofs.Common.{◌≡◌, ℕ, ◌≤◌, Bool, true, false, not, ◌&&◌, ◌||◌, eqb, ltb, leb, sym, refl, arith, le-leb}
 use borrow.Author.Tests.{not-false}
 use Rattle.octets.proofs.Branch.{by_bool}
 use Rattle.octets.specs.Class.{classless}
 use Rattle.octets.specs.Read.{ComebackFits, HeardFits}
 use Rattle.octets.specs.declared.class.FrameClass.{FrameClass}
-use Rattle.octets.specs.declared.element.Comeback.{Comeback}
-use Rattle.octets.specs.declared.element.Comeback.TheVariants.{Absent, Given}
+use Rattle.octets.specs.declared.frame.Frame.{Frame}
 use Rattle.octets.specs.declared.heard.Heard.TheVariants as heard
 use Rattle.octets.specs.declared.heard.Heard.{Heard}
 use Rattle.octets.specs.declared.heard.Kind.TheVariants.{Authentication}
@@ -28,7 +28,6 @@ use Rattle.peer.specs.declared.moves.Move.TheVariants as move
 use Rattle.peer.specs.declared.query.Query.TheVariants as query
 use Rattle.peer.specs.declared.exchange.Exchange.TheVariants.{Asked, None}
 use Rattle.peer.specs.declared.record.Record.{Record}
-use Rattle.peer.specs.declared.reply.Reply.{Reply}
 use Rattle.peer.specs.declared.settings.Settings.{Settings}
 use Rattle.peer.specs.declared.turn.Told.{Told}
 use Rattle.peer.proofs.Fits.{Fits, both, clash, keeps_changed, keeps_on, keeps_queried, sent_asks, wrong}
@@ -72,9 +71,9 @@ asking_hold : (role hold : ℕ) → role_asks role ≡ true → hold ≤ 4294967
 unfolding hold_fits
 asking_hold role hold e l = rw (le-leb hold 4294967295 l, e)
 
-comeback_hold_lem : (c : Comeback) → ComebackFits c → comeback_hold c ≤ 4294967295
-comeback_hold_lem (Given tu) f = omega arith
-comeback_hold_lem Absent f = omega arith
+comeback_hold_lem : (c : Option ℕ) → ComebackFits c → comeback_hold c ≤ 4294967295
+comeback_hold_lem (Some tu) f = omega arith
+comeback_hold_lem None f = omega arith
 
 requested :
     (s : Settings) (busy : Bool) (p : Record) → Fits s p → (k : Kind) (current : ℕ) → role_answers s.role ≡ true → stands k s.role p.state ≡ true
@@ -143,7 +142,7 @@ module _ (s : Settings) (busy : Bool) (p : Record) (f : Fits s p) (fit : setting
       (λ e. rw e (still f _))
 
   -- the one turn that raises a station's record to State 3 or 4: every other record leaves it
-  joined : role_associates s.role ≡ true → (v : ℕ) (told : Told) (r : Reply) → Turns s busy p (sole_of (turn_of s p (ended_of s p move.Join p.hold) v told r))
+  joined : role_associates s.role ≡ true → (v : ℕ) (told : Told) (r : Option Frame) → Turns s busy p (sole_of (turn_of s p (ended_of s p move.Join p.hold) v told r))
   unfolding sole_of turn_of ended_of
   joined on v told r =
       keeps_changed s busy p f (moved_of s.rsna p.state move.Join) None 0 p.hold true
@@ -151,7 +150,7 @@ module _ (s : Settings) (busy : Bool) (p : Record) (f : Fits s p) (fit : setting
       (λ a b j. wrong (sym b)) (λ a b j. wrong j)
 
   response :
-      (k : Kind) (status aid : ℕ) (c : Comeback) → role_associates s.role ≡ true → (role_answers s.role ≡ false → ComebackFits c)
+      (k : Kind) (status aid : ℕ) (c : Option ℕ) → role_associates s.role ≡ true → (role_answers s.role ≡ false → ComebackFits c)
       → Turns s busy p (response_heard s p k status aid c)
   unfolding response_heard accepted_of rejected_of
   response k status aid c on u = by_bool (is_sent k p.exchange)

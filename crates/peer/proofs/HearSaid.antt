@@ -1,6 +1,7 @@
 -- Demand 2's round trip, of the replies to a frame: what the other end hears of one is what document 01 says (`replied_says`), by the class of the
 -- frame, what it says, the peer's state and the query to it, with its addresses and every other octet (`hear_said`; `full_said` where no place is free).
 -- Assumes nothing.
+use Rattle.std.specs.Prelude.{Some, None}
 use Rattle.std.proofs.Common.{◌≡◌, ℕ, ◌≤◌, Bool, true, false, not, ◌&&◌, ◌||◌, eqb, ltb, leb, List, [], ◌∷◌, sym, refl, arith, eqb-true, leb-false}
 use borrow.Author.Tests.{not-true, not-false}
 use Rattle.octets.proofs.Below.{heard_fits}
@@ -13,7 +14,6 @@ use Rattle.octets.specs.Heard.{heard_of}
 use Rattle.octets.specs.Read.{HeardFits, association_later, association_response, authentication, deauthentication, disassociation, query_response, reassociation_later, reassociation_response}
 use Rattle.octets.specs.declared.class.FrameClass.TheVariants as class
 use Rattle.octets.specs.declared.class.FrameClass.{FrameClass}
-use Rattle.octets.specs.declared.element.Comeback.TheVariants.{Absent, Given}
 use Rattle.octets.specs.declared.heard.Heard.TheVariants as heard
 use Rattle.octets.specs.declared.heard.Heard.{Heard}
 use Rattle.octets.specs.declared.heard.Kind.TheVariants.{Association, Authentication, Reassociation}
@@ -53,13 +53,13 @@ module _ (s : Settings) (fit : settings_fit s ≡ true) (p : Record) (valid : va
       (λ e. rw e (sent s fit p.address valid deauthentication (omega arith) (omega arith)))
       (λ e. rw e (sent s fit p.address valid disassociation (omega arith) (omega arith)))
 
-  refused : (k : Kind) → is_associating k ≡ true → Speaks s p.address (heard.Response k 1 0 Absent) (response_to s p.address k 1 0)
+  refused : (k : Kind) → is_associating k ≡ true → Speaks s p.address (heard.Response k 1 0 None) (response_to s p.address k 1 0)
   unfolding response_to
   refused Authentication a = wrong a
   refused Association a = sent s fit p.address valid association_response (omega arith) (capability_below s.rsna, omega arith, omega arith)
   refused Reassociation a = sent s fit p.address valid reassociation_response (omega arith) (capability_below s.rsna, omega arith, omega arith)
 
-  later : (k : Kind) (time : ℕ) → is_associating k ≡ true → time ≤ 65535 → Speaks s p.address (heard.Response k 30 0 (Given time)) (later_to s p.address k 30 time)
+  later : (k : Kind) (time : ℕ) → is_associating k ≡ true → time ≤ 65535 → Speaks s p.address (heard.Response k 30 0 (Some time)) (later_to s p.address k 30 time)
   unfolding later_to
   later Authentication time a l = wrong a
   later Association time a l = sent s fit p.address valid association_later (omega arith) (capability_below s.rsna, omega arith, omega arith)
@@ -194,7 +194,7 @@ asking =
     0x01 ∷ 0 ∷ 10 ∷ 0 ∷ 0x0c ∷ 0 ∷ 0 ∷ 0 ∷ 0 ∷ 0 ∷ []
 
 answered :
-    ReadsTo home 0x0e (heard.Response Reassociation 1 0 Absent)
+    ReadsTo home 0x0e (heard.Response Reassociation 1 0 None)
     (0x30 ∷ 0 ∷ 0 ∷ 0 ∷ 0x0e ∷ 0 ∷ 0 ∷ 0 ∷ 0 ∷ 0 ∷ 0x0a ∷ 0 ∷ 0 ∷ 0 ∷ 0 ∷ 0 ∷ 0x0a ∷ 0 ∷ 0 ∷ 0 ∷ 0 ∷ 0 ∷ 0 ∷ 0 ∷
     0x01 ∷ 0 ∷ 1 ∷ 0 ∷ 0 ∷ 0 ∷ [])
 unfolding hear_of replied_of turn_of barred_of request_barred response_to send_of network_address capability_of aid_field bytes_of head_of body_of octets settings_fit query_times_fit time_fits network_fits role_associates valid_of fresh_of class_in class_of is_public_action heard_of

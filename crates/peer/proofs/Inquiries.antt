@@ -5,13 +5,14 @@
 --     inquiry-eleven         of the primitives, 11 alone sends one
 --     inquiry-once           and none is due when it was sent: a second primitive 11 is refused
 -- Assumes nothing.
-use Rattle.std.proofs.Common.{◌≡◌, ℕ, Bool, true, false, not, ◌&&◌, ◌||◌, eqb, ltb, refl, eqb-true}
+use Rattle.std.proofs.Common.{◌≡◌, ℕ, Bool, true, false, not, ◌&&◌, ◌||◌, eqb, ltb, refl, eqb-true, Option, None, Some}
 use Rattle.octets.proofs.Branch.{by_bool, pick_both, pick_by}
 use Rattle.octets.specs.Pick.{pick}
 use Rattle.octets.specs.declared.class.FrameClass.TheVariants as class
 use Rattle.octets.specs.declared.class.FrameClass.{FrameClass}
 use Rattle.octets.specs.declared.frame.Body.TheVariants as body
 use Rattle.octets.specs.declared.frame.Body.{Body}
+use Rattle.octets.specs.declared.frame.Frame.{Frame}
 use Rattle.octets.specs.declared.heard.Heard.TheVariants as heard
 use Rattle.octets.specs.declared.heard.Heard.{Heard}
 use Rattle.octets.specs.declared.heard.Kind.TheVariants as kind
@@ -34,8 +35,6 @@ use Rattle.peer.specs.declared.query.Query.TheVariants as query
 use Rattle.peer.specs.declared.query.Query.{Query}
 use Rattle.peer.specs.declared.record.Record.{Record}
 use Rattle.peer.specs.declared.refuse.Others.{Others}
-use Rattle.peer.specs.declared.reply.Reply.TheVariants.{Send, Silent}
-use Rattle.peer.specs.declared.reply.Reply.{Reply}
 use Rattle.peer.specs.declared.settings.Settings.{Settings}
 use Rattle.peer.specs.declared.turn.Turn.{Turn}
 use Rattle.peer.proofs.Fits.{wrong}
@@ -46,7 +45,7 @@ use Rattle.peer.proofs.Roles.{authentication_by, barred_by_lem, request_barred_b
 pub forged_reply :
     (s : Settings) → Guarded s → (p : Record) → p.state ≡ 4 → is_timed_out p.query ≡ false → (k : FrameClass) (group : Bool) (kind : Kind) (current : ℕ)
     → passes_of s.role k 4 ≡ true
-    → (hear_of s p k group (heard.Request kind current)).reply ≡ pick group Silent (later_to s p.address kind status_later (query_left (running_of s p.query)))
+    → (hear_of s p k group (heard.Request kind current)).reply ≡ pick group None (later_to s p.address kind status_later (query_left (running_of s p.query)))
 unfolding hear_of group_heard still_of replied_of turn_of challenged_of
 forged_reply s g p four waits k group kind current through =
     let here : passes_of s.role k p.state ≡ true = rw four through in
@@ -62,9 +61,9 @@ inquires (body.Later capability status time) = false
 inquires (body.Reason reason) = false
 inquires (body.Query action identifier) = eqb action 0
 
-abbrev pub is_inquiry : Reply → Bool
-is_inquiry Silent = false
-is_inquiry (Send f) = inquires f.body
+abbrev pub is_inquiry : Option Frame → Bool
+is_inquiry None = false
+is_inquiry (Some f) = inquires f.body
 
 abbrev Other : Turn → Type 0
 Other t = is_inquiry t.reply ≡ false

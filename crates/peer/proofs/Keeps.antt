@@ -1,11 +1,12 @@
 -- What the rules are made of keeps what a record must be: a turn that leaves the record, ends an exchange or begins one; a record found,
 -- fresh, or moved to State 2 by another's turn.
 -- Assumes nothing.
-use Rattle.std.proofs.Common.{◌≡◌, ℕ, ◌≤◌, Bool, true, false, not, ◌&&◌, ◌||◌, eqb, ltb, leb, sym, refl, arith, ltb-false, ltb-true, eqb-true, le-leb}
+use Rattle.std.proofs.Common.{◌≡◌, ℕ, ◌≤◌, Bool, true, false, not, ◌&&◌, ◌||◌, eqb, ltb, leb, sym, refl, arith, ltb-false, ltb-true, eqb-true, le-leb, Option}
 use borrow.Author.Tests.{lt-leb}
 use Rattle.octets.proofs.Branch.{by_bool, pick_both, pick_by}
 use Rattle.octets.specs.Address.{valid_of}
 use Rattle.octets.specs.Links.{no_links}
+use Rattle.octets.specs.declared.frame.Frame.{Frame}
 use Rattle.octets.specs.declared.heard.Kind.TheVariants.{Association, Authentication, Reassociation}
 use Rattle.octets.specs.declared.heard.Kind.{Kind}
 use Rattle.peer.specs.Ask.{declined_move}
@@ -22,7 +23,6 @@ use Rattle.peer.specs.declared.query.Query.{Query}
 use Rattle.peer.specs.declared.exchange.Exchange.TheVariants.{None}
 use Rattle.peer.specs.declared.exchange.Exchange.{Exchange}
 use Rattle.peer.specs.declared.record.Record.{Record}
-use Rattle.peer.specs.declared.reply.Reply.{Reply}
 use Rattle.peer.specs.declared.settings.Settings.{Settings}
 use Rattle.peer.specs.declared.turn.Told.{Told}
 use Rattle.peer.specs.declared.turn.Turn.{Turn}
@@ -67,11 +67,11 @@ declined_no_higher s state two =
 
 -- turns of a record that fits: it stays; its exchange ends; one begins; its query is another
 module _ {s : Settings} {busy : Bool} {p : Record} (f : Fits s p) where
-  pub turned : (v : ℕ) (told : Told) (r : Reply) → Turns s busy p (turn_of s p p v told r)
+  pub turned : (v : ℕ) (told : Told) (r : Option Frame) → Turns s busy p (turn_of s p p v told r)
   unfolding turn_of
   turned v told r = keeps_all s busy p f
 
-  pub replied : (v : ℕ) (r : Reply) → Turns s busy p (replied_of s p v r)
+  pub replied : (v : ℕ) (r : Option Frame) → Turns s busy p (replied_of s p v r)
   unfolding replied_of turn_of
   replied v r = keeps_all s busy p f
 
@@ -80,7 +80,7 @@ module _ {s : Settings} {busy : Bool} {p : Record} (f : Fits s p) where
   still v = keeps_all s busy p f
 
   pub ended :
-      (m : Move) (hold v : ℕ) (told : Told) (r : Reply) → hold_fits s.role hold ≡ true → (calm m ≡ false → eqb s.role ap ≡ true)
+      (m : Move) (hold v : ℕ) (told : Told) (r : Option Frame) → hold_fits s.role hold ≡ true → (calm m ≡ false → eqb s.role ap ≡ true)
       → Turns s busy p (turn_of s p (ended_of s p m hold) v told r)
   unfolding turn_of ended_of
   ended m hold v told r held c =
@@ -89,7 +89,7 @@ module _ {s : Settings} {busy : Bool} {p : Record} (f : Fits s p) where
       (λ a b j. calm_moved s.rsna p.state m (by_bool (calm m) (λ e. e) (λ n. clash (ap_answers s.role (c n)) a)) j) (λ a b j. wrong j)
 
   pub begun :
-      (e : Exchange) (left v : ℕ) (told : Told) (r : Reply) → exchange_fits e s.role p.state left ≡ true
+      (e : Exchange) (left v : ℕ) (told : Told) (r : Option Frame) → exchange_fits e s.role p.state left ≡ true
       → (role_answers s.role ≡ false → busy ≡ true → leb 2 (under_way e) ≡ true → leb 2 (under_way p.exchange) ≡ true)
       → Turns s busy p (turn_of s p (begun_of p e left) v told r)
   unfolding turn_of begun_of
@@ -97,7 +97,7 @@ module _ {s : Settings} {busy : Bool} {p : Record} (f : Fits s p) where
       keeps_changed s busy p f p.state e left p.hold false f.low f.high f.held suits (λ a b j. j) starts
 
   pub queried :
-      (q : Query) (identifier v : ℕ) (told : Told) (r : Reply) → identifier ≤ 65535 → query_fits s p.state q ≡ true
+      (q : Query) (identifier v : ℕ) (told : Told) (r : Option Frame) → identifier ≤ 65535 → query_fits s p.state q ≡ true
       → Turns s busy p (turn_of s p (queried_of p q identifier) v told r)
   unfolding turn_of
   queried q identifier v told r short suits = keeps_queried s busy p f q identifier short suits

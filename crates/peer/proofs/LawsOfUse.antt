@@ -1,11 +1,11 @@
 -- Laws that a user of the rules relies on, at one peer: what can set a hold, what can raise a state to 3 or 4, and where a deauthentication
 -- ends. Each is about the definitions that the code is proved equal to.
 -- Assumes nothing.
-use Rattle.std.proofs.Common.{◌≡◌, ℕ, ◌-◌, ◌<◌, ◌≤◌, Bool, true, false, not, ◌&&◌, ◌||◌, eqb, ltb, sym, refl, ◌∙◌, arith, ltb-true, eqb-true}
+use Rattle.std.specs.Prelude.{Some}
+use Rattle.std.proofs.Common.{◌≡◌, ℕ, ◌-◌, ◌<◌, ◌≤◌, Bool, true, false, not, ◌&&◌, ◌||◌, eqb, ltb, sym, refl, ◌∙◌, arith, ltb-true, eqb-true, None}
 use Rattle.octets.specs.Pick.{pick}
 use Rattle.octets.proofs.Branch.{by_bool, pick_both, pick_by}
 use Rattle.octets.specs.declared.class.FrameClass.{FrameClass}
-use Rattle.octets.specs.declared.element.Comeback.TheVariants.{Given}
 use Rattle.octets.specs.declared.heard.Kind.{Kind}
 use Rattle.octets.specs.declared.heard.Heard.{Heard}
 use Rattle.octets.specs.declared.heard.Heard.TheVariants as heard
@@ -26,7 +26,6 @@ use Rattle.peer.specs.declared.settings.Settings.{Settings}
 use Rattle.peer.specs.declared.record.Record.{Record}
 use Rattle.peer.specs.declared.refuse.Others.{Others}
 use Rattle.peer.specs.declared.moves.Move.TheVariants as move
-use Rattle.peer.specs.declared.reply.Reply.TheVariants.{Silent}
 use Rattle.peer.specs.declared.turn.Turn.{Turn}
 use Rattle.peer.proofs.Moved.{calm_low}
 use Rattle.peer.proofs.Keeps.{answered_calm, declined_calm}
@@ -89,7 +88,7 @@ hold_kept_asked s aid p o q code =
     (pick_both (Held p) (eqb q 10) refl refl)))))))))
 
 -- "A comeback of 0 is a hold of 0."
-pub comeback_zero : (s : Settings) (p : Record) (k : Kind) (status : ℕ) → (rejected_of s p k status (Given 0)).peer.hold ≡ 0
+pub comeback_zero : (s : Settings) (p : Record) (k : Kind) (status : ℕ) → (rejected_of s p k status (Some 0)).peer.hold ≡ 0
 unfolding rejected_of turn_of ended_of changed_of
 comeback_zero s p k status = refl
 
@@ -141,7 +140,7 @@ act_low s p (heard.QueryResponse i) l e = pick_both Low (eqb p.state 4 && (is_ru
 act_low s p (heard.Response k st aid c) l e =
     pick_by Low (is_sent k p.exchange) (λ sent. answered (eqb st 0) (eqb aid 0 || ltb last_aid aid) (rw sent at e)) (λ sent. l)
   where
-    answered : (b d : Bool) → (b && not d) ≡ false → Low (pick b (pick d (still_of s p 1) (sole_of (turn_of s p (ended_of s p move.Join p.hold) 1 (told_of (confirm_of k) 0) Silent))) (rejected_of s p k st c))
+    answered : (b d : Bool) → (b && not d) ≡ false → Low (pick b (pick d (still_of s p 1) (sole_of (turn_of s p (ended_of s p move.Join p.hold) 1 (told_of (confirm_of k) 0) None))) (rejected_of s p k st c))
     answered true true e = l
     answered true false e = let z : ◌≡◌ {A = ℕ} 0 1 = cc in absurd (omega arith)
     answered false d e = omega arith

@@ -6,7 +6,7 @@
 --     tick-links, tick-linked            no clock step takes a record its links, nor its address where it has any
 -- Where frames to a device go is in Spoken.
 -- Assumes nothing.
-use Rattle.std.proofs.Common.{◌≡◌, ℕ, Bool, true, false, not, ◌&&◌, ◌||◌, eqb, ltb, sym, refl, ◌∙◌}
+use Rattle.std.proofs.Common.{◌≡◌, ℕ, Bool, true, false, not, ◌&&◌, ◌||◌, eqb, ltb, sym, refl, ◌∙◌, None}
 use Rattle.octets.proofs.Branch.{pick_both}
 use Rattle.octets.proofs.LinkTrip.{unlinked_of}
 use Rattle.octets.specs.Address.{valid_of}
@@ -31,11 +31,10 @@ use Rattle.peer.specs.Settings.{ap, role_asks, role_associates, station}
 use Rattle.peer.specs.Tick.{freed_of, queried_timed, tick_of, timed_of}
 use Rattle.peer.specs.Turn.{begun_of, ended_of, linking_of, none, nothing_told, replied_of, sole_of, still_of, turn_of}
 use Rattle.peer.specs.declared.query.Query.TheVariants as query
-use Rattle.peer.specs.declared.exchange.Exchange.TheVariants.{None}
+use Rattle.peer.specs.declared.exchange.Exchange.TheVariants as exchange
 use Rattle.peer.specs.declared.exchange.Exchange.{Exchange}
 use Rattle.peer.specs.declared.record.Record.{Record}
 use Rattle.peer.specs.declared.refuse.Others.{Others}
-use Rattle.peer.specs.declared.reply.Reply.TheVariants.{Silent}
 use Rattle.peer.specs.declared.settings.Settings.{Settings}
 use Rattle.peer.specs.declared.tick.Ticked.{Ticked}
 use Rattle.peer.specs.declared.turn.Turn.{Turn}
@@ -83,7 +82,7 @@ pub record Still (p : Record) (t : Turn) : Type 0 where
   pub verdict : t.verdict ≡ none
   pub ds : t.ds ≡ ds_none
   pub sole : t.sole ≡ false
-  pub reply : t.reply ≡ Silent
+  pub reply : t.reply ≡ None
 
 pub linking_still : (s : Settings) (p : Record) (ls : Links) → Still p (linking_of s p ls)
 unfolding linking_of turn_of linked_of
@@ -186,29 +185,29 @@ two = record { one = 6; two = 8; three = 0; four = 0 }
 
 -- not with an empty slot before a link, nor with our own address, nor at a station
 all_fit :
-    (record_fits (ours ap) (device None two) && (not (record_fits (ours ap) (device None (record { one = 0; two = 6; three = 0; four = 0 })))
-    && (not (record_fits (ours ap) (device None (record { one = 2; two = 0; three = 0; four = 0 }))) && not (record_fits (ours station) (device None two)))))
+    (record_fits (ours ap) (device exchange.None two) && (not (record_fits (ours ap) (device exchange.None (record { one = 0; two = 6; three = 0; four = 0 })))
+    && (not (record_fits (ours ap) (device exchange.None (record { one = 2; two = 0; three = 0; four = 0 }))) && not (record_fits (ours station) (device exchange.None two)))))
     ≡ true
 unfolding record_fits highest_state role_asks role_associates valid_of hold_fits query_allowed links_fit links_stand slot_fits no_links
 all_fit = refl
 
-alone : Fits (ours ap) (device None unlinked)
+alone : Fits (ours ap) (device exchange.None unlinked)
 unfolding record_fits highest_state role_asks role_associates valid_of hold_fits query_allowed links_fit no_links
-alone = fits_of (ours ap) (device None unlinked) refl
+alone = fits_of (ours ap) (device exchange.None unlinked) refl
 
-named_two : Fits (ours ap) (device None two)
+named_two : Fits (ours ap) (device exchange.None two)
 unfolding links_stand slot_fits valid_of linked_of
-named_two = linking_keeps (ours ap) (device None unlinked) alone two refl refl
+named_two = linking_keeps (ours ap) (device exchange.None unlinked) alone two refl refl
 
 -- "count 0 takes its links away", and the next clock step frees the place
-taken_away : (linking_of (ours ap) (device None two) unlinked).peer ≡ device None unlinked
+taken_away : (linking_of (ours ap) (device exchange.None two) unlinked).peer ≡ device exchange.None unlinked
 unfolding linking_of turn_of linked_of
 taken_away = refl
 
-freed : (tick_of (ours ap) (device None unlinked) 1).peer ≡ free_of
+freed : (tick_of (ours ap) (device exchange.None unlinked) 1).peer ≡ free_of
 unfolding tick_of freed_of queried_timed queried_of timed_of changed_of query_in no_links
 freed = refl
 
-not_freed : Named (device None two) (tick_of (ours ap) (device None two) 1).peer
+not_freed : Named (device exchange.None two) (tick_of (ours ap) (device exchange.None two) 1).peer
 unfolding no_links
-not_freed = tick_linked (ours ap) (device None two) 1 refl
+not_freed = tick_linked (ours ap) (device exchange.None two) 1 refl

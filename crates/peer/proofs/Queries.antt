@@ -3,12 +3,13 @@
 --     one_passes             after a query that timed out one request passes, and the next is met by a query again
 -- Each is over the definitions that the code is proved equal to; examples stand below.
 -- Assumes nothing.
-use Rattle.std.proofs.Common.{◌≡◌, ℕ, Bool, true, false, not, ◌&&◌, refl}
+use Rattle.std.proofs.Common.{◌≡◌, ℕ, Bool, true, false, not, ◌&&◌, refl, Option}
 use Rattle.octets.proofs.Branch.{pick_both}
 use Rattle.octets.specs.Address.{valid_of}
 use Rattle.octets.specs.Links.{no_links, unlinked}
 use Rattle.octets.specs.declared.class.FrameClass.TheVariants as class
 use Rattle.octets.specs.declared.class.FrameClass.{FrameClass}
+use Rattle.octets.specs.declared.frame.Frame.{Frame}
 use Rattle.octets.specs.declared.heard.Heard.TheVariants as heard
 use Rattle.octets.specs.declared.heard.Kind.TheVariants.{Association, Reassociation}
 use Rattle.octets.specs.declared.heard.Kind.{Kind}
@@ -27,7 +28,6 @@ use Rattle.peer.specs.declared.query.Query.TheVariants as query
 use Rattle.peer.specs.declared.query.Query.{Query}
 use Rattle.peer.specs.declared.exchange.Exchange.TheVariants.{Asked, None}
 use Rattle.peer.specs.declared.record.Record.{Record}
-use Rattle.peer.specs.declared.reply.Reply.{Reply}
 use Rattle.peer.specs.declared.settings.Settings.{Settings}
 use Rattle.peer.specs.declared.turn.Turn.{Turn}
 use Rattle.peer.proofs.Fits.{wrong}
@@ -70,7 +70,7 @@ module _ (s : Settings) (g : Guarded s) (p : Record) (four : p.state ≡ 4) (wai
   unfolding is_challenged
   is_challenged_lem = rw (g.edition, g.protection, four, waits)
 
-  stands_still : (v : ℕ) (r : Reply) → Unmoved p (replied_of s p v r)
+  stands_still : (v : ℕ) (r : Option Frame) → Unmoved p (replied_of s p v r)
   unfolding replied_of turn_of
   stands_still v r = record { told = refl; ds = ds_beside s.role p.state p.state refl; sole = refl; stays = same; unmarked = waits }
 

@@ -1,7 +1,8 @@
 -- 02, K6, "One long step or two short", of an SA Query: what two steps make of it is what their sum makes of it; and where the sum reaches no retry,
 -- one of the two reports what the sum does, the other nothing.
 -- Assumes nothing.
-use Rattle.std.proofs.Common.{◌≡◌, ℕ, ◌+◌, ◌-◌, ◌/◌, ◌<◌, ◌≤◌, Bool, true, false, ◌||◌, eqb, ltb, leb, refl, ◌∙◌, le_trans, le-div_iff_mul-le, div-mul-le_self, arith, ltb-false, ltb-true, lt-ltb, le-leb, leb-false, leb-true}
+use Rattle.std.proofs.Common.{◌≡◌, ℕ, ◌+◌, ◌-◌, ◌/◌, ◌<◌, ◌≤◌, false, ◌||◌, eqb, ltb, leb, refl, ◌∙◌, le_trans, le-div_iff_mul-le, div-mul-le_self, arith, ltb-false, ltb-true, lt-ltb, le-leb, leb-false, leb-true}
+use Rattle.std.proofs.Math.Bool.{or_assoc}
 use borrow.Author.Tests.{eqb-false, lt-leb}
 use Rattle.octets.proofs.Branch.{by_bool}
 use Rattle.peer.specs.Query.{query_in, query_report, query_retried, query_timed, reaches, running_report, running_retried, running_timed}
@@ -65,10 +66,6 @@ pub data Shared (one two long : ℕ) : Type 0 where
   early : one ≡ long → two ≡ 0 → Shared one two long
   late : one ≡ 0 → two ≡ long → Shared one two long
 
-or_or : (a b c : Bool) → ((a || b) || c) ≡ (a || (b || c))
-or_or true b c = refl
-or_or false b c = refl
-
 module _ (s : Settings) where
   pub timed_twice : (q : Query) (d e : ℕ) → Bounded s q → query_timed s (query_timed s q d) e ≡ query_timed s q (d + e)
   unfolding running_timed
@@ -85,7 +82,7 @@ module _ (s : Settings) where
         r,
         lt-leb left (d + e) (let k = leb-false (left - d) e r in omega arith),
         less,
-        or_or due (reaches s left d) (reaches s (left - d) e),
+        or_assoc due (reaches s left d) (reaches s (left - d) e),
         reaches_twice s left d b (leb-false left d l) e,
       )))
 

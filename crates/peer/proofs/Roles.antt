@@ -1,11 +1,12 @@
 -- What goes by the role, taken apart once: what follows of what a role may do, the highest state that there is, and for each rule that goes by the
 -- role that what holds of each of its answers holds of the rule.
 -- Assumes nothing.
-use Rattle.std.proofs.Common.{◌≡◌, ℕ, ◌≤◌, Bool, true, false, not, ◌&&◌, ◌||◌, eqb, ltb, leb, refl, arith, eqb-true, leb-true}
+use Rattle.std.proofs.Common.{◌≡◌, ℕ, ◌≤◌, Bool, true, false, not, ◌&&◌, ◌||◌, eqb, ltb, leb, refl, arith, eqb-true, leb-true, Option, None}
 use borrow.Author.Tests.{eqb-false, not-false, not-true}
 use Rattle.octets.proofs.Branch.{and_left, and_right, by_bool, pick_both, pick_by}
 use Rattle.octets.specs.Pick.{pick}
 use Rattle.octets.specs.declared.class.FrameClass.{FrameClass}
+use Rattle.octets.specs.declared.frame.Frame.{Frame}
 use Rattle.octets.specs.declared.heard.Heard.{Heard}
 use Rattle.octets.specs.declared.heard.Kind.TheVariants.{Authentication}
 use Rattle.octets.specs.declared.heard.Kind.{Kind}
@@ -21,8 +22,6 @@ use Rattle.peer.specs.Reply.{authentication_to, response_to}
 use Rattle.peer.specs.Settings.{ad_hoc, ap, role_answers, role_asks, role_associates, settings_fit, station}
 use Rattle.peer.specs.Turn.{admit, confirm_of, ended_of, replied_of, still_of, told_of, turn_of}
 use Rattle.peer.specs.declared.record.Record.{Record}
-use Rattle.peer.specs.declared.reply.Reply.TheVariants.{Silent}
-use Rattle.peer.specs.declared.reply.Reply.{Reply}
 use Rattle.peer.specs.declared.settings.Settings.{Settings}
 use Rattle.peer.specs.declared.turn.Turn.{Turn}
 use Rattle.peer.proofs.Fits.{or_left}
@@ -96,7 +95,7 @@ module _ (s : Settings) (p : Record) where
       → (role_answers s.role ≡ true → eqb algorithm 0 ≡ true → P (requested_of s p Authentication 0))
       → (eqb algorithm 0 ≡ false → P (replied_of s p admit (authentication_to s p.address algorithm 2 status_algorithm)))
       → (is_sent Authentication p.exchange ≡ true
-      → P (turn_of s p (ended_of s p (answered_move status) p.hold) admit (told_of (confirm_of Authentication) status) Silent))
+      → P (turn_of s p (ended_of s p (answered_move status) p.hold) admit (told_of (confirm_of Authentication) status) None))
       → P (still_of s p admit) → P (authentication_heard s p algorithm transaction status)
   unfolding authentication_heard authentication_asked authentication_answered
   authentication_by P algorithm transaction status asked other answered none =
@@ -115,14 +114,14 @@ module _ (s : Settings) (p : Record) where
 
   -- a frame that is kept out
   pub barred_by_lem :
-      (P : Reply → Type 0) (k : FrameClass) (group : Bool) (h : Heard) → P Silent → (role_associates s.role ≡ true → P (barred_by s p k h))
+      (P : Option Frame → Type 0) (k : FrameClass) (group : Bool) (h : Heard) → P None → (role_associates s.role ≡ true → P (barred_by s p k h))
       → P (barred_of s p k group h)
   unfolding barred_of
   barred_by_lem P k group h silent other =
       pick_by P (group || not (role_associates s.role)) (λ e. silent) (λ e. other (not-false _ (or_left group _ e).1))
 
   pub request_barred_by :
-      (P : Reply → Type 0) (k : FrameClass) (kind : Kind) → (eqb s.role ap ≡ true → P (response_to s p.address kind status_refused 0))
+      (P : Option Frame → Type 0) (k : FrameClass) (kind : Kind) → (eqb s.role ap ≡ true → P (response_to s p.address kind status_refused 0))
       → (eqb s.role ap ≡ false → P (filtered_of s p k)) → P (request_barred s p k kind)
   unfolding request_barred
   request_barred_by P k kind refused other = pick_by P (eqb s.role ap) refused other

@@ -4,7 +4,7 @@
 --     towards-speaks                             and it reads back as before
 --     linked-stand, spoken-alone, spoken-valid   the address that a primitive's frame goes to: the peer's away from an AP, and valid
 -- Assumes nothing.
-use Rattle.std.proofs.Common.{◌≡◌, ℕ, ◌^◌, ◌<◌, true, false, not, eqb, [], ◌∷◌, refl, subst, arith, eqb-true}
+use Rattle.std.proofs.Common.{◌≡◌, ℕ, ◌^◌, ◌<◌, true, false, not, eqb, [], ◌∷◌, refl, subst, arith, eqb-true, Option, None, Some}
 use Rattle.octets.proofs.Branch.{by_bool}
 use Rattle.octets.proofs.Le.{le_octets}
 use Rattle.octets.proofs.RoundTrip.{framed}
@@ -32,8 +32,6 @@ use Rattle.peer.specs.Turn.{towards_of, turn_of}
 use Rattle.peer.specs.declared.exchange.Exchange.TheVariants.{Asked}
 use Rattle.peer.specs.declared.record.Record.{Record}
 use Rattle.peer.specs.declared.refuse.Others.{Others}
-use Rattle.peer.specs.declared.reply.Reply.TheVariants.{Send, Silent}
-use Rattle.peer.specs.declared.reply.Reply.{Reply}
 use Rattle.peer.specs.declared.settings.Settings.{Settings}
 use Rattle.peer.specs.declared.turn.Turn.{Turn}
 use Rattle.peer.proofs.AskSaid.{ask_said}
@@ -54,9 +52,9 @@ unfolding towards_of
 towards_does a t = record { peer = refl; told = refl; verdict = refl; ds = refl; sole = refl }
 
 -- Address 1 alone is another
-pub directed_twice : (a b : ℕ) (r : Reply) → directed_of b (directed_of a r) ≡ directed_of b r
-directed_twice a b Silent = refl
-directed_twice a b (Send f) = refl
+pub directed_twice : (a b : ℕ) (r : Option Frame) → directed_of b (directed_of a r) ≡ directed_of b r
+directed_twice a b None = refl
+directed_twice a b (Some f) = refl
 
 module _ (s : Settings) (a b : ℕ) where
   abbrev to : Frame → Frame
@@ -96,9 +94,9 @@ module _ (s : Settings) (a b : ℕ) where
   third_same : (eqb s.role ap ≡ false → b ≡ a) → third_address s a ≡ third_address s b
   third_same one = by_bool (eqb s.role ap) (λ e. rw (eqb-true s.role ap e)) (λ e. rw (one e))
 
-  pub towards_speaks : (w : Heard) (r : Reply) → (eqb s.role ap ≡ false → b ≡ a) → b < 2 ^ 48 → Speaks s a w r → Speaks s b w (directed_of b r)
-  towards_speaks w Silent one low h = tt
-  towards_speaks w (Send f) one low h = (
+  pub towards_speaks : (w : Heard) (r : Option Frame) → (eqb s.role ap ≡ false → b ≡ a) → b < 2 ^ 48 → Speaks s a w r → Speaks s b w (directed_of b r)
+  towards_speaks w None one low h = tt
+  towards_speaks w (Some f) one low h = (
     record { subtype = h.0.subtype; address1 = low; address2 = h.0.address2; address3 = h.0.address3; body = h.0.body },
     subst (λ (third : ℕ). Reads b s.own third (pick (eqb s.rsna 0) 0x0001 0x0011) w (bytes_of (to f)))
         (third_same one) (readdressed w f (third_address s a) (pick (eqb s.rsna 0) 0x0001 0x0011) low h.1),

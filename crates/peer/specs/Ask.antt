@@ -1,6 +1,6 @@
 -- 01, "Primitives from our own side", at one peer, where nothing refuses it. p is the peer's record, fresh where it has none.
 -- Assumes nothing.
-use Rattle.std.specs.Prelude.{ℕ, ◌||◌, ◌==◌, nat_lt}
+use Rattle.std.specs.Prelude.{ℕ, ◌||◌, ◌==◌, nat_lt, None}
 use Rattle.octets.specs.Pick.{pick}
 use Rattle.octets.specs.declared.heard.Kind.TheVariants.{Association, Authentication, Reassociation}
 use Rattle.octets.specs.declared.heard.Kind.{Kind}
@@ -16,7 +16,6 @@ use Rattle.peer.specs.declared.moves.Move.{Move}
 use Rattle.peer.specs.declared.exchange.Exchange.TheVariants.{Awaiting, Sent}
 use Rattle.peer.specs.declared.record.Record.{Record}
 use Rattle.peer.specs.declared.refuse.Others.{Others}
-use Rattle.peer.specs.declared.reply.Reply.TheVariants.{Silent}
 use Rattle.peer.specs.declared.settings.Settings.{Settings}
 use Rattle.peer.specs.declared.turn.Turn.{Turn}
 
@@ -39,11 +38,11 @@ answer_of s p status =
 unfoldable pub deauthenticate_of : Settings → Record → ℕ → Turn
 deauthenticate_of s p reason =
     turn_of s p (ended_of s p move.Deauthenticate p.hold) none (told_of deauthentication_confirm reason)
-    (pick (nat_lt p.state 2) Silent (deauthentication_to s p.address reason))
+    (pick (nat_lt p.state 2) None (deauthentication_to s p.address reason))
 
 -- "confirm status 1"
 unfoldable pub failed_of : Settings → Record → Kind → Turn
-failed_of s p k = turn_of s p p none (told_of (confirm_of k) status_refused) Silent
+failed_of s p k = turn_of s p p none (told_of (confirm_of k) status_refused) None
 
 -- 4. "State 1: confirm status 1; else frame"
 unfoldable pub associate_of : Settings → Record → Turn
@@ -60,7 +59,7 @@ reassociate_of s p o =
 unfoldable pub disassociate_of : Settings → Record → ℕ → Turn
 disassociate_of s p reason =
     pick (nat_lt p.state 3)
-    (turn_of s p p none (told_of disassociation_confirm reason) Silent)
+    (turn_of s p p none (told_of disassociation_confirm reason) None)
     (turn_of s p (ended_of s p move.Drop p.hold) none (told_of disassociation_confirm reason) (disassociation_to s p.address reason))
 
 -- 7, 8. "status 0: frame with AID, awaits acknowledgement, state kept"
@@ -83,14 +82,14 @@ respond_of s aid p k status = pick (status == 0) (awaited_of s p k aid) (decline
 -- 9. "State 3 to 4; State 4 kept"; the exchange goes on
 unfoldable pub secure_of : Settings → Record → Turn
 secure_of s p =
-    turn_of s p (changed_of p (moved_of s.rsna p.state move.Secure) p.exchange p.left p.hold) none nothing_told Silent
+    turn_of s p (changed_of p (moved_of s.rsna p.state move.Secure) p.exchange p.left p.hold) none nothing_told None
 
 -- 10. "1: State 3 if RSNA required, else 4; 0: state kept; exchange ends"
 unfoldable pub reported_move : ℕ → Move
 reported_move code = pick (code == 1) move.Join move.Keep
 
 unfoldable pub report_of : Settings → Record → ℕ → Turn
-report_of s p code = turn_of s p (ended_of s p (reported_move code) p.hold) none nothing_told Silent
+report_of s p code = turn_of s p (ended_of s p (reported_move code) p.hold) none nothing_told None
 
 -- What each primitive does where nothing refuses it.
 unfoldable pub ask_of : Settings → ℕ → Record → Others → ℕ → ℕ → Turn

@@ -1,9 +1,7 @@
 -- 01, A received frame, 8: (re)association requests and responses.
 -- Assumes nothing.
-use Rattle.std.specs.Prelude.{ℕ, ◌||◌, ◌==◌, nat_lt}
+use Rattle.std.specs.Prelude.{ℕ, ◌||◌, ◌==◌, nat_lt, Option, Some, None}
 use Rattle.octets.specs.Pick.{pick}
-use Rattle.octets.specs.declared.element.Comeback.TheVariants.{Absent, Given}
-use Rattle.octets.specs.declared.element.Comeback.{Comeback}
 use Rattle.octets.specs.declared.heard.Kind.{Kind}
 use Rattle.peer.specs.Codes.{last_aid}
 use Rattle.peer.specs.Authentication.{requested_of}
@@ -14,7 +12,6 @@ use Rattle.peer.specs.Settings.{ap}
 use Rattle.peer.specs.Turn.{admit, confirm_of, ended_of, sole_of, still_of, told_of, turn_of}
 use Rattle.peer.specs.declared.moves.Move.TheVariants as move
 use Rattle.peer.specs.declared.record.Record.{Record}
-use Rattle.peer.specs.declared.reply.Reply.TheVariants.{Silent}
 use Rattle.peer.specs.declared.settings.Settings.{Settings}
 use Rattle.peer.specs.declared.turn.Turn.{Turn}
 
@@ -26,9 +23,9 @@ request_heard s p k current =
     (still_of s p admit)
 
 -- "hold set: the first element .. gives its 4-octet value in TU; without one, 1,954 for any status (house)". "A comeback of 0 is a hold of 0."
-abbrev pub comeback_hold : Comeback → ℕ
-comeback_hold (Given tu) = tu
-comeback_hold Absent = default_hold
+abbrev pub comeback_hold : Option ℕ → ℕ
+comeback_hold (Some tu) = tu
+comeback_hold None = default_hold
 
 -- "status 0 with AID (low 14 bits) outside 1-2007 does nothing. Else the exchange ends, confirm with the status. Status 0: State 3 if RSNA is
 -- required, else 4; any other record in State 3 or 4 goes to State 2."
@@ -36,15 +33,15 @@ unfoldable pub accepted_of : Settings → Record → Kind → ℕ → Turn
 accepted_of s p k aid =
     pick (aid == 0 || nat_lt last_aid aid)
     (still_of s p admit)
-    (sole_of (turn_of s p (ended_of s p move.Join p.hold) admit (told_of (confirm_of k) 0) Silent))
+    (sole_of (turn_of s p (ended_of s p move.Join p.hold) admit (told_of (confirm_of k) 0) None))
 
 -- "Other status: State 2, hold set"
-unfoldable pub rejected_of : Settings → Record → Kind → ℕ → Comeback → Turn
+unfoldable pub rejected_of : Settings → Record → Kind → ℕ → Option ℕ → Turn
 rejected_of s p k status c =
-    turn_of s p (ended_of s p move.Drop (comeback_hold c)) admit (told_of (confirm_of k) status) Silent
+    turn_of s p (ended_of s p move.Drop (comeback_hold c)) admit (told_of (confirm_of k) status) None
 
 -- "Response, station, matching exchange sent". (At an AP no exchange is sent.)
-unfoldable pub response_heard : Settings → Record → Kind → ℕ → ℕ → Comeback → Turn
+unfoldable pub response_heard : Settings → Record → Kind → ℕ → ℕ → Option ℕ → Turn
 response_heard s p k status aid c =
     pick (is_sent k p.exchange)
     (pick (status == 0) (accepted_of s p k aid) (rejected_of s p k status c))

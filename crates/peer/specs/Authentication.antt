@@ -1,6 +1,6 @@
 -- 01, A received frame, 8: authentication.
 -- Assumes nothing.
-use Rattle.std.specs.Prelude.{ℕ, ◌&&◌, ◌==◌}
+use Rattle.std.specs.Prelude.{ℕ, ◌&&◌, ◌==◌, None}
 use Rattle.octets.specs.Pick.{pick}
 use Rattle.octets.specs.declared.heard.Kind.TheVariants as kind
 use Rattle.octets.specs.declared.heard.Kind.{Kind}
@@ -13,14 +13,13 @@ use Rattle.peer.specs.declared.moves.Move.TheVariants as move
 use Rattle.peer.specs.declared.moves.Move.{Move}
 use Rattle.peer.specs.declared.exchange.Exchange.TheVariants.{Asked}
 use Rattle.peer.specs.declared.record.Record.{Record}
-use Rattle.peer.specs.declared.reply.Reply.TheVariants.{Silent}
 use Rattle.peer.specs.declared.settings.Settings.{Settings}
 use Rattle.peer.specs.declared.turn.Turn.{Turn}
 
 -- "that exchange asked, replacing any, with an indication; a reassociation's carries the current AP address"; its code is 0
 unfoldable pub requested_of : Settings → Record → Kind → ℕ → Turn
 requested_of s p k current =
-    turn_of s p (begun_of p (Asked k) 0) admit (record { notice = indication_of k; code = 0; current = current }) Silent
+    turn_of s p (begun_of p (Asked k) 0) admit (record { notice = indication_of k; code = 0; current = current }) None
 
 -- "algorithm not 0, reply transaction 2, same algorithm, status 13. Else .. the record (new if need be) has authentication asked, replacing any
 -- exchange, with an indication; state unchanged." 02, K10: "an asked exchange has time 0", where it replaces one of our own too.
@@ -43,7 +42,7 @@ answered_move status = pick (status == 0) move.Authenticate move.Keep
 unfoldable pub authentication_answered : Settings → Record → ℕ → ℕ → ℕ → Turn
 authentication_answered s p algorithm transaction status =
     pick (algorithm == 0 && (transaction == 2 && is_sent kind.Authentication p.exchange))
-    (turn_of s p (ended_of s p (answered_move status) p.hold) admit (told_of (confirm_of kind.Authentication) status) Silent)
+    (turn_of s p (ended_of s p (answered_move status) p.hold) admit (told_of (confirm_of kind.Authentication) status) None)
     (still_of s p admit)
 
 -- "Authentication, AP, transaction 1", or what may be an answer to us. 02, K10: "Authentication may be asked by either end, by both roles' rules."

@@ -1,6 +1,6 @@
 -- 02, K5, "Forged rejoin requests": what an SA Query makes of a frame, at one peer. p is the peer's record.
 -- Assumes nothing.
-use Rattle.std.specs.Prelude.{ℕ, Bool, not, ◌&&◌, ◌==◌}
+use Rattle.std.specs.Prelude.{ℕ, Bool, not, ◌&&◌, ◌==◌, None}
 use Rattle.octets.specs.Pick.{pick}
 use Rattle.octets.specs.declared.heard.Kind.{Kind}
 use Rattle.peer.specs.Codes.{status_later}
@@ -10,7 +10,6 @@ use Rattle.peer.specs.Reply.{later_to, query_request, query_response, query_to}
 use Rattle.peer.specs.Turn.{admit, none, nothing_told, replied_of, still_of, turn_of}
 use Rattle.peer.specs.declared.query.Query.TheVariants as query
 use Rattle.peer.specs.declared.record.Record.{Record}
-use Rattle.peer.specs.declared.reply.Reply.TheVariants.{Silent}
 use Rattle.peer.specs.declared.settings.Settings.{Settings}
 use Rattle.peer.specs.declared.turn.Turn.{Turn}
 
@@ -44,7 +43,7 @@ query_request_heard s p identifier =
 unfoldable pub query_response_heard : Settings → Record → ℕ → Turn
 query_response_heard s p identifier =
     pick (p.state == 4 && (is_running p.query && identifier == p.identifier))
-    (turn_of s p (queried_of p query.None p.identifier) admit nothing_told Silent)
+    (turn_of s p (queried_of p query.None p.identifier) admit nothing_told None)
     (still_of s p admit)
 
 -- Primitive 11: "until a new primitive 11 (AP, code 0) sends the request"

@@ -1,18 +1,16 @@
 -- What the other end is to hear of each frame that is sent to a peer: of a primitive's, and of a reply to a frame.
 -- Assumes nothing.
-use Rattle.std.specs.Prelude.{ℕ, ◌&&◌, List, ◌==◌}
+use Rattle.std.specs.Prelude.{ℕ, ◌&&◌, List, ◌==◌, Some, None, Option}
 use Rattle.octets.specs.Frame.{bytes_of}
 use Rattle.octets.specs.Pick.{pick}
 use Rattle.octets.specs.Read.{FrameFits, Reads}
-use Rattle.octets.specs.declared.element.Comeback.TheVariants.{Absent, Given}
+use Rattle.octets.specs.declared.frame.Frame.{Frame}
 use Rattle.octets.specs.declared.heard.Heard.TheVariants as heard
 use Rattle.octets.specs.declared.heard.Heard.{Heard}
 use Rattle.octets.specs.declared.heard.Kind.TheVariants.{Association, Reassociation}
 use Rattle.peer.specs.Query.{query_left, running_of}
 use Rattle.peer.specs.Settings.{ad_hoc, ap, station}
 use Rattle.peer.specs.declared.query.Query.{Query}
-use Rattle.peer.specs.declared.reply.Reply.TheVariants.{Send, Silent}
-use Rattle.peer.specs.declared.reply.Reply.{Reply}
 use Rattle.peer.specs.declared.settings.Settings.{Settings}
 
 -- "Number, peer address, code": the frame of a primitive, at a place with this AID, where associated is the associated AP's address
@@ -32,8 +30,8 @@ asked_says q code aid associated identifier =
     -- 6. DISASSOCIATE.request, reason
     (pick (q == 6) (heard.Disassociation code)
     -- 7, 8. ASSOCIATE / REASSOCIATE.response, status: "status 0: frame with AID .. else frame AID 0"
-    (pick (q == 7) (heard.Response Association code (pick (code == 0) aid 0) Absent)
-    (pick (q == 8) (heard.Response Reassociation code (pick (code == 0) aid 0) Absent)
+    (pick (q == 7) (heard.Response Association code (pick (code == 0) aid 0) None)
+    (pick (q == 8) (heard.Response Reassociation code (pick (code == 0) aid 0) None)
     (pick (q == 9) heard.Other
     (pick (q == 10) heard.Other
     -- 11. 02, K5: "a new primitive 11 .. sends the request"; another number is refused 3 before.
@@ -54,9 +52,9 @@ replied_says s state query class (heard.Authentication algorithm transaction sta
     heard.Authentication algorithm 2 (pick (algorithm == 0) 17 13)
 -- "Exception (000): an AP replies to an individually addressed (re)association request in State 1 with the matching response, status 1, AID 0"
 replied_says s state query class (heard.Request kind current) =
-    pick (s.role == ap && state == 1) (heard.Response kind 1 0 Absent)
+    pick (s.role == ap && state == 1) (heard.Response kind 1 0 None)
     -- 02, K5: "answered with status 30, AID 0 and a Timeout Interval element of type 3 with the query's remaining TU"
-    (pick (state == 4) (heard.Response kind 30 0 (Given (query_left (running_of s query))))
+    (pick (state == 4) (heard.Response kind 30 0 (Some (query_left (running_of s query))))
     (barred_says class state))
 -- 02, K5: "a request is answered with its identifier in either role"
 replied_says s state query class (heard.QueryRequest identifier) =
@@ -78,6 +76,6 @@ ReadsTo s peer w xs =
     Reads peer s.own (third_address s peer) (pick (s.rsna == 0) 0x0001 0x0011) w xs
 
 -- A reply is nothing, or a frame each field of which fits its octets, and whose octets read so.
-abbrev pub Speaks : Settings → ℕ → Heard → Reply → Type 0
-Speaks s peer w Silent = Unit
-Speaks s peer w (Send f) = FrameFits f × ReadsTo s peer w (bytes_of f)
+abbrev pub Speaks : Settings → ℕ → Heard → Option Frame → Type 0
+Speaks s peer w None = Unit
+Speaks s peer w (Some f) = FrameFits f × ReadsTo s peer w (bytes_of f)

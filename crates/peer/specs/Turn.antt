@@ -1,6 +1,7 @@
 -- What one event makes of one peer, as a value.
 -- Assumes nothing.
-use Rattle.std.specs.Prelude.{ℕ, true, false}
+use Rattle.std.specs.Prelude.{ℕ, true, false, Option, None}
+use Rattle.octets.specs.declared.frame.Frame.{Frame}
 use Rattle.octets.specs.declared.heard.Kind.TheVariants.{Association, Authentication, Reassociation}
 use Rattle.octets.specs.declared.heard.Kind.{Kind}
 use Rattle.octets.specs.declared.links.Links.{Links}
@@ -8,11 +9,9 @@ use Rattle.peer.specs.Moves.{ds_of, moved_of}
 use Rattle.peer.specs.Record.{changed_of, linked_of}
 use Rattle.peer.specs.Reply.{directed_of}
 use Rattle.peer.specs.declared.moves.Move.{Move}
-use Rattle.peer.specs.declared.exchange.Exchange.TheVariants.{None}
+use Rattle.peer.specs.declared.exchange.Exchange.TheVariants as exchange
 use Rattle.peer.specs.declared.exchange.Exchange.{Exchange}
 use Rattle.peer.specs.declared.record.Record.{Record}
-use Rattle.peer.specs.declared.reply.Reply.TheVariants.{Silent}
-use Rattle.peer.specs.declared.reply.Reply.{Reply}
 use Rattle.peer.specs.declared.settings.Settings.{Settings}
 use Rattle.peer.specs.declared.turn.Told.{Told}
 use Rattle.peer.specs.declared.turn.Turn.{Turn}
@@ -58,7 +57,7 @@ abbrev pub told_of : ℕ → ℕ → Told
 told_of notice code = record { notice = notice; code = code; current = 0 }
 
 -- A record goes from p to q; the distribution system is told by the two states, and by nothing else.
-unfoldable pub turn_of : Settings → Record → Record → ℕ → Told → Reply → Turn
+unfoldable pub turn_of : Settings → Record → Record → ℕ → Told → Option Frame → Turn
 turn_of s p q verdict told reply =
     record { peer = q; told = told; verdict = verdict; ds = ds_of s.role p.state q.state; sole = false; reply = reply }
 
@@ -74,19 +73,19 @@ towards_of a t =
 
 -- The record after a move that ends the exchange, with a hold.
 unfoldable pub ended_of : Settings → Record → Move → ℕ → Record
-ended_of s p m hold = changed_of p (moved_of s.rsna p.state m) None 0 hold
+ended_of s p m hold = changed_of p (moved_of s.rsna p.state m) exchange.None 0 hold
 
 -- The record with an exchange begun, in place of any other: "state unchanged", the hold too.
 unfoldable pub begun_of : Record → Exchange → ℕ → Record
 begun_of p e left = changed_of p p.state e left p.hold
 
 -- The record stays; what is said is a reply, or nothing.
-unfoldable pub replied_of : Settings → Record → ℕ → Reply → Turn
+unfoldable pub replied_of : Settings → Record → ℕ → Option Frame → Turn
 replied_of s p verdict reply = turn_of s p p verdict nothing_told reply
 
 unfoldable pub still_of : Settings → Record → ℕ → Turn
-still_of s p verdict = replied_of s p verdict Silent
+still_of s p verdict = replied_of s p verdict None
 
 -- 02, K11, primitive 12: "count 0 takes its links away ..., another count replaces them"; all else stays, and nothing is said.
 unfoldable pub linking_of : Settings → Record → Links → Turn
-linking_of s p ls = turn_of s p (linked_of p ls) none nothing_told Silent
+linking_of s p ls = turn_of s p (linked_of p ls) none nothing_told None

@@ -9,7 +9,7 @@ use crate::exchange::Exchange;
 use crate::moves::{Move, moved};
 use crate::record::Record;
 use crate::refuse::Others;
-use crate::reply::{Reply, authentication, deauthentication, disassociation, request, response};
+use crate::reply::{authentication, deauthentication, disassociation, request, response};
 use crate::settings::Settings;
 use crate::turn::{Told, Turn, begun, confirm, ended};
 use octets::heard::Kind;
@@ -26,6 +26,7 @@ fn timeout(s: Settings, k: Kind) -> u16
 }
 
 // A request is sent, and its exchange starts at its timeout.
+#[tactic(auto, unfolding(crate::specs::Ask::started_of))]
 fn started(s: Settings, p: Record, k: Kind, current: u64) -> Turn
     ensures { result ≡ started_of s p k current }
 {
@@ -35,6 +36,7 @@ fn started(s: Settings, p: Record, k: Kind, current: u64) -> Turn
 }
 
 // 2, AUTHENTICATE.response.
+#[tactic(auto, unfolding(crate::specs::Ask::answer_of))]
 fn answer(s: Settings, p: Record, status: u16) -> Turn
     ensures { result ≡ answer_of s p status }
 {
@@ -43,14 +45,15 @@ fn answer(s: Settings, p: Record, status: u16) -> Turn
     Turn::of(s, p, q, Turn::NONE, Told::nothing(), reply)
 }
 
-// 3, DEAUTHENTICATE.request.
+// 3, DEAUTHENTICATE.request. Two turns, as one of a reply chosen before took 6 % more instructions of a primitive.
+#[tactic(auto, unfolding(crate::specs::Ask::deauthenticate_of))]
 fn deauthenticate(s: Settings, p: Record, reason: u16) -> Turn
     ensures { result ≡ deauthenticate_of s p reason }
 {
     let q = ended(s, p, Move::Deauthenticate, p.hold);
     let told = Told::of(Told::DEAUTHENTICATION_CONFIRM, reason);
     if p.state < Record::STATE_2 {
-        return Turn::of(s, p, q, Turn::NONE, told, Reply::Silent);
+        return Turn::of(s, p, q, Turn::NONE, told, None);
     }
     Turn::of(
         s,
@@ -63,6 +66,7 @@ fn deauthenticate(s: Settings, p: Record, reason: u16) -> Turn
 }
 
 // A (re)association that can't be asked: confirm with status 1.
+#[tactic(auto, unfolding(crate::specs::Ask::failed_of))]
 fn failed(s: Settings, p: Record, k: Kind) -> Turn
     ensures { result ≡ failed_of s p k }
 {
@@ -72,11 +76,12 @@ fn failed(s: Settings, p: Record, k: Kind) -> Turn
         p,
         Turn::NONE,
         Told::of(confirm(k), STATUS_REFUSED),
-        Reply::Silent,
+        None,
     )
 }
 
 // 4, ASSOCIATE.request.
+#[tactic(auto, unfolding(crate::specs::Ask::associate_of))]
 fn associate(s: Settings, p: Record) -> Turn
     ensures { result ≡ associate_of s p }
 {
@@ -88,25 +93,25 @@ fn associate(s: Settings, p: Record) -> Turn
 }
 
 // 5, REASSOCIATE.request.
+#[tactic(auto, unfolding(crate::specs::Ask::reassociate_of))]
 fn reassociate(s: Settings, p: Record, o: Others) -> Turn
     ensures { result ≡ reassociate_of s p o }
 {
-    if o.associated == 0 {
-        return failed(s, p, Kind::Reassociation);
+    if o.associated == 0 || p.state == Record::STATE_1 {
+        failed(s, p, Kind::Reassociation)
+    } else {
+        started(s, p, Kind::Reassociation, o.associated)
     }
-    if p.state == Record::STATE_1 {
-        return failed(s, p, Kind::Reassociation);
-    }
-    started(s, p, Kind::Reassociation, o.associated)
 }
 
 // 6, DISASSOCIATE.request.
+#[tactic(auto, unfolding(crate::specs::Ask::disassociate_of))]
 fn disassociate(s: Settings, p: Record, reason: u16) -> Turn
     ensures { result ≡ disassociate_of s p reason }
 {
     let told = Told::of(Told::DISASSOCIATION_CONFIRM, reason);
     if p.state < Record::STATE_3 {
-        return Turn::of(s, p, p, Turn::NONE, told, Reply::Silent);
+        return Turn::of(s, p, p, Turn::NONE, told, None);
     }
     let q = ended(s, p, Move::Drop, p.hold);
     Turn::of(
@@ -120,6 +125,7 @@ fn disassociate(s: Settings, p: Record, reason: u16) -> Turn
 }
 
 // 7 and 8, success: the response is sent, and awaits its acknowledgement.
+#[tactic(auto, unfolding(crate::specs::Ask::awaited_of))]
 fn awaited(s: Settings, p: Record, k: Kind, aid: u16) -> Turn
     ensures { result ≡ awaited_of s p k aid }
 {
@@ -135,6 +141,7 @@ fn awaited(s: Settings, p: Record, k: Kind, aid: u16) -> Turn
 }
 
 // Where a rejection of ours leads: the editions' two rules.
+#[tactic(auto, unfolding(crate::specs::Ask::declined_move))]
 fn declined_move(s: Settings) -> Move
     ensures { result ≡ declined_move s }
 {
@@ -148,6 +155,7 @@ fn declined_move(s: Settings) -> Move
 }
 
 // 7 and 8, another status.
+#[tactic(auto, unfolding(crate::specs::Ask::declined_of))]
 fn declined(s: Settings, p: Record, k: Kind, status: u16) -> Turn
     ensures { result ≡ declined_of s p k status }
 {
@@ -163,6 +171,7 @@ fn declined(s: Settings, p: Record, k: Kind, status: u16) -> Turn
 }
 
 // 7, ASSOCIATE.response, and 8, REASSOCIATE.response.
+#[tactic(auto, unfolding(crate::specs::Ask::respond_of))]
 fn respond(s: Settings, aid: u16, p: Record, k: Kind, status: u16) -> Turn
     ensures { result ≡ respond_of s aid p k status }
 {
@@ -174,15 +183,16 @@ fn respond(s: Settings, aid: u16, p: Record, k: Kind, status: u16) -> Turn
 }
 
 // 9, SETPROTECTION.
+#[tactic(auto, unfolding(crate::specs::Ask::secure_of))]
 fn secure(s: Settings, p: Record) -> Turn
     ensures { result ≡ secure_of s p }
 {
     let state = moved(s.rsna, p.state, Move::Secure);
-    let e = p.exchange;
-    let q = p.changed(state, e, p.left, p.hold);
-    Turn::of(s, p, q, Turn::NONE, Told::nothing(), Reply::Silent)
+    let q = p.changed(state, p.exchange, p.left, p.hold);
+    Turn::of(s, p, q, Turn::NONE, Told::nothing(), None)
 }
 
+#[tactic(auto, unfolding(crate::specs::Ask::reported_move))]
 fn reported_move(code: u16) -> Move
     ensures { result ≡ reported_move code }
 {
@@ -190,14 +200,17 @@ fn reported_move(code: u16) -> Move
 }
 
 // 10, the transmit report: whether the response was acknowledged.
+#[tactic(auto, unfolding(crate::specs::Ask::report_of))]
 fn report(s: Settings, p: Record, code: u16) -> Turn
     ensures { result ≡ report_of s p code }
 {
     let q = ended(s, p, reported_move(code), p.hold);
-    Turn::of(s, p, q, Turn::NONE, Told::nothing(), Reply::Silent)
+    Turn::of(s, p, q, Turn::NONE, Told::nothing(), None)
 }
 
 // What a primitive that nothing refuses makes of a peer. `aid` is the AID that the peer would be given.
+// By the primitive's number, as `ask_of` is: the function promises for any.
+#[tactic(auto, unfolding(crate::specs::Ask::ask_of))]
 pub fn ask(s: Settings, aid: u16, p: Record, o: Others, primitive: u8, code: u16) -> Turn
     ensures { result ≡ ask_of s aid p o primitive code }
 {

@@ -3,35 +3,30 @@ ghost use Rattle.std.specs.Prelude.{◌≡◌};
 ghost use Rattle.peer.specs.Authentication.{answered_move, authentication_answered, authentication_asked, authentication_heard, full_of, requested_of};
 
 use crate::codes::{STATUS_ALGORITHM, STATUS_FULL};
-use crate::exchange::{AUTHENTICATION, Exchange, sent};
+use crate::exchange::Exchange;
 use crate::moves::Move;
 use crate::record::Record;
-use crate::reply::{Reply, authentication};
+use crate::reply::authentication;
 use crate::settings::{Settings, answers};
 use crate::turn::{Told, Turn, begun, ended, indication, replied, still};
 use octets::heard::Kind;
 
 // A request of a kind is asked, in place of any exchange.
+#[tactic(auto, unfolding(crate::specs::Authentication::requested_of))]
 pub fn requested(s: Settings, p: Record, kind: Kind, current: u64) -> Turn
     ensures { result ≡ requested_of s p kind current }
 {
-    let notice = indication(kind);
+    let told = Told {
+        notice: indication(kind),
+        code: 0,
+        current,
+    };
     let q = begun(p, Exchange::Asked(kind), 0);
-    Turn::of(
-        s,
-        p,
-        q,
-        Turn::ADMIT,
-        Told {
-            notice,
-            code: 0,
-            current,
-        },
-        Reply::Silent,
-    )
+    Turn::of(s, p, q, Turn::ADMIT, told, None)
 }
 
 // The move that the status of an authentication makes.
+#[tactic(auto, unfolding(crate::specs::Authentication::answered_move))]
 pub fn answered_move(status: u16) -> Move
     ensures { result ≡ answered_move status }
 {
@@ -42,6 +37,7 @@ pub fn answered_move(status: u16) -> Move
     }
 }
 
+#[tactic(auto, unfolding(crate::specs::Authentication::authentication_asked))]
 fn authentication_asked(s: Settings, p: Record, algorithm: u16) -> Turn
     ensures { result ≡ authentication_asked s p algorithm }
 {
@@ -57,6 +53,7 @@ fn authentication_asked(s: Settings, p: Record, algorithm: u16) -> Turn
 }
 
 // An authentication request that would need a record where no place is free.
+#[tactic(auto, unfolding(crate::specs::Authentication::full_of))]
 pub fn full(s: Settings, p: Record) -> Turn
     ensures { result ≡ full_of s p }
 {
@@ -68,6 +65,7 @@ pub fn full(s: Settings, p: Record) -> Turn
     )
 }
 
+#[tactic(auto, unfolding(crate::specs::Authentication::authentication_answered))]
 fn authentication_answered(
     s: Settings,
     p: Record,
@@ -77,28 +75,17 @@ fn authentication_answered(
 ) -> Turn
     ensures { result ≡ authentication_answered s p algorithm transaction status }
 {
-    if algorithm != 0 {
+    let sent = Exchange::Sent(Kind::Authentication);
+    if algorithm != 0 || transaction != 2 || p.exchange != sent {
         return still(s, p, Turn::ADMIT);
     }
-    if transaction != 2 {
-        return still(s, p, Turn::ADMIT);
-    }
-    let e = p.exchange;
-    if sent(e) != AUTHENTICATION {
-        return still(s, p, Turn::ADMIT);
-    }
-    let m = answered_move(status);
-    let q = ended(s, p, m, p.hold);
-    Turn::of(
-        s,
-        p,
-        q,
-        Turn::ADMIT,
-        Told::of(Told::AUTHENTICATION_CONFIRM, status),
-        Reply::Silent,
-    )
+    let q = ended(s, p, answered_move(status), p.hold);
+    let told = Told::of(Told::AUTHENTICATION_CONFIRM, status);
+    Turn::of(s, p, q, Turn::ADMIT, told, None)
 }
 
+// Three fields one by one: this is public, and its definition takes them so.
+#[tactic(auto, unfolding(crate::specs::Authentication::authentication_heard))]
 pub fn authentication_heard(
     s: Settings,
     p: Record,
@@ -108,10 +95,7 @@ pub fn authentication_heard(
 ) -> Turn
     ensures { result ≡ authentication_heard s p algorithm transaction status }
 {
-    if transaction != 1 {
-        return authentication_answered(s, p, algorithm, transaction, status);
-    }
-    if answers(s.role) {
+    if transaction == 1 && answers(s.role) {
         authentication_asked(s, p, algorithm)
     } else {
         authentication_answered(s, p, algorithm, transaction, status)

@@ -1,4 +1,5 @@
 // The standard's status and reason codes that are sent, and its highest AID.
+// Numbers: `respond`, `answer` and `deauthenticate` take any status or reason, and a frame carries it as it is.
 pub const STATUS_REFUSED: u16 = 1;
 
 pub const STATUS_ALGORITHM: u16 = 13;

@@ -5,7 +5,8 @@ ghost use Rattle.peer.specs.Record.{asked_of, awaiting_of, exchange_number, exch
 use octets::heard::Kind;
 
 // The exchange under way.
-#[derive(Clone, Copy)]
+// The enum that document 01 names: none, asked, awaiting or sent, each with a kind inside.
+#[derive(Clone, Copy, PartialEq, Eq)]
 pub enum Exchange {
     None,
     // A request was heard, and is to be answered (AP).
@@ -16,14 +17,14 @@ pub enum Exchange {
     Sent(Kind),
 }
 
-// The numbers of the kinds.
+// The numbers of the kinds: `asked`, `awaiting`, `sent` and `under_way` promise them, 0 for none, and a clock step reports them.
 pub const AUTHENTICATION: u8 = 1;
 
 pub const ASSOCIATION: u8 = 2;
 
 pub const REASSOCIATION: u8 = 3;
 
-// The number of a kind.
+// The number of a kind. `From<Kind> for u8` can't stand here: neither type is this crate's.
 pub fn kind_number(k: Kind) -> u8
     ensures { result ≡ kind_of k }
 {
@@ -35,14 +36,13 @@ pub fn kind_number(k: Kind) -> u8
 }
 
 // The number of the kind that is asked, or 0.
+// This and the next two are three functions: each is public, and `specs/Record.antt` names each.
 pub fn asked(e: Exchange) -> u8
     ensures { result ≡ asked_of e }
 {
     match e {
         Exchange::Asked(k) => kind_number(k),
-        Exchange::None => 0,
-        Exchange::Awaiting(_) => 0,
-        Exchange::Sent(_) => 0,
+        _ => 0,
     }
 }
 
@@ -52,9 +52,7 @@ pub fn awaiting(e: Exchange) -> u8
 {
     match e {
         Exchange::Awaiting(k) => kind_number(k),
-        Exchange::None => 0,
-        Exchange::Asked(_) => 0,
-        Exchange::Sent(_) => 0,
+        _ => 0,
     }
 }
 
@@ -64,9 +62,7 @@ pub fn sent(e: Exchange) -> u8
 {
     match e {
         Exchange::Sent(k) => kind_number(k),
-        Exchange::None => 0,
-        Exchange::Asked(_) => 0,
-        Exchange::Awaiting(_) => 0,
+        _ => 0,
     }
 }
 
@@ -76,12 +72,11 @@ pub fn under_way(e: Exchange) -> u8
 {
     match e {
         Exchange::None => 0,
-        Exchange::Asked(k) => kind_number(k),
-        Exchange::Awaiting(k) => kind_number(k),
-        Exchange::Sent(k) => kind_number(k),
+        Exchange::Asked(k) | Exchange::Awaiting(k) | Exchange::Sent(k) => kind_number(k),
     }
 }
 
+// This and `exchange_of` are no `From`: the pages and the specs name both, and a `From<u8>` would hide that a number of no exchange gives none.
 // The number of an exchange, as it is shown: 0 none, 1 to 3 asked, 4 to 6 awaiting acknowledgement, 7 to 9 sent, each by its kind.
 pub fn exchange_number(e: Exchange) -> u8
     ensures { result ≡ exchange_number e }
@@ -89,20 +84,13 @@ pub fn exchange_number(e: Exchange) -> u8
     match e {
         Exchange::None => 0,
         Exchange::Asked(k) => kind_number(k),
-        Exchange::Awaiting(k) => match k {
-            Kind::Authentication => 4,
-            Kind::Association => 5,
-            Kind::Reassociation => 6,
-        },
-        Exchange::Sent(k) => match k {
-            Kind::Authentication => 7,
-            Kind::Association => 8,
-            Kind::Reassociation => 9,
-        },
+        Exchange::Awaiting(k) => 3 + kind_number(k),
+        Exchange::Sent(k) => 6 + kind_number(k),
     }
 }
 
 // The exchange of a number; none where it is no exchange's.
+#[tactic(auto, unfolding(crate::specs::Record::exchange_of))]
 pub fn exchange_of(number: u8) -> Exchange
     ensures { result ≡ exchange_of number }
 {
@@ -124,9 +112,5 @@ pub fn exchange_of(number: u8) -> Exchange
 pub fn associating(k: Kind) -> bool
     ensures { result ≡ is_associating k }
 {
-    match k {
-        Kind::Authentication => false,
-        Kind::Association => true,
-        Kind::Reassociation => true,
-    }
+    k != Kind::Authentication
 }

@@ -4,10 +4,10 @@ ghost use Rattle.peer.specs.Farewell.{deauthentication_heard, disassociation_hea
 
 use crate::moves::Move;
 use crate::record::Record;
-use crate::reply::Reply;
 use crate::settings::Settings;
 use crate::turn::{Told, Turn, ended, still};
 
+#[tactic(auto, unfolding(crate::specs::Farewell::deauthentication_heard))]
 pub fn deauthentication_heard(s: Settings, p: Record, reason: u16) -> Turn
     ensures { result ≡ deauthentication_heard s p reason }
 {
@@ -21,11 +21,12 @@ pub fn deauthentication_heard(s: Settings, p: Record, reason: u16) -> Turn
         q,
         Turn::ADMIT,
         Told::of(Told::DEAUTHENTICATION_INDICATION, reason),
-        Reply::Silent,
+        None,
     )
 }
 
 // The hold after a disassociation was received.
+#[tactic(auto, unfolding(crate::specs::Farewell::dropped_hold))]
 fn dropped_hold(role: u8, hold: u32) -> u32
     ensures { result ≡ dropped_hold role hold }
 {
@@ -36,6 +37,7 @@ fn dropped_hold(role: u8, hold: u32) -> u32
     }
 }
 
+#[tactic(auto, unfolding(crate::specs::Farewell::disassociation_heard))]
 pub fn disassociation_heard(s: Settings, p: Record, reason: u16) -> Turn
     ensures { result ≡ disassociation_heard s p reason }
 {
@@ -50,6 +52,6 @@ pub fn disassociation_heard(s: Settings, p: Record, reason: u16) -> Turn
         q,
         Turn::ADMIT,
         Told::of(Told::DISASSOCIATION_INDICATION, reason),
-        Reply::Silent,
+        None,
     )
 }

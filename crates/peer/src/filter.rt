@@ -16,20 +16,8 @@ pub fn passes(role: u8, class: FrameClass, state: u8) -> bool
     match class {
         FrameClass::None => false,
         FrameClass::One => true,
-        FrameClass::Two => {
-            if associates(role) {
-                Record::STATE_2 <= state
-            } else {
-                false
-            }
-        }
-        FrameClass::Three => {
-            if associates(role) {
-                Record::STATE_3 <= state
-            } else {
-                false
-            }
-        }
+        FrameClass::Two => associates(role) && Record::STATE_2 <= state,
+        FrameClass::Three => associates(role) && Record::STATE_3 <= state,
     }
 }
 
@@ -38,8 +26,7 @@ fn filtered(s: Settings, p: Record, class: FrameClass) -> Reply
     ensures { result ≡ filtered_of s p class }
 {
     match class {
-        FrameClass::None => Reply::Silent,
-        FrameClass::One => Reply::Silent,
+        FrameClass::None | FrameClass::One => None,
         FrameClass::Two => deauthentication(s, p.address, REASON_CLASS_2),
         FrameClass::Three => {
             if p.state == Record::STATE_1 {
@@ -52,6 +39,7 @@ fn filtered(s: Settings, p: Record, class: FrameClass) -> Reply
 }
 
 // The exception: an AP answers a (re)association request that is kept out.
+#[tactic(auto, unfolding(crate::specs::Filter::request_barred))]
 fn request_barred(s: Settings, p: Record, class: FrameClass, kind: Kind) -> Reply
     ensures { result ≡ request_barred s p class kind }
 {
@@ -63,23 +51,15 @@ fn request_barred(s: Settings, p: Record, class: FrameClass, kind: Kind) -> Repl
 }
 
 // What a frame that is kept out is answered; to a group address, and where nobody associates, nothing.
+#[tactic(auto, unfolding(crate::specs::Filter::barred_of))]
 pub fn barred(s: Settings, p: Record, class: FrameClass, group: bool, h: Heard) -> Reply
     ensures { result ≡ barred_of s p class group h }
 {
-    if group {
-        return Reply::Silent;
-    }
-    if associates(s.role) {} else {
-        return Reply::Silent;
+    if group || !associates(s.role) {
+        return None;
     }
     match h {
-        Heard::Other => filtered(s, p, class),
-        Heard::Authentication { .. } => filtered(s, p, class),
-        Heard::Deauthentication(_) => filtered(s, p, class),
-        Heard::Disassociation(_) => filtered(s, p, class),
-        Heard::Request { kind, current: _ } => request_barred(s, p, class, kind),
-        Heard::Response { .. } => filtered(s, p, class),
-        Heard::QueryRequest(_) => filtered(s, p, class),
-        Heard::QueryResponse(_) => filtered(s, p, class),
+        Heard::Request { kind, .. } => request_barred(s, p, class, kind),
+        _ => filtered(s, p, class),
     }
 }

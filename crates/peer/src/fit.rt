@@ -11,63 +11,44 @@ use octets::heard::Kind;
 use octets::links::Links;
 
 // Whether a kind of exchange may stand at a role in a state.
+#[tactic(auto, unfolding(crate::specs::Fit::stands))]
 fn standing(k: Kind, role: u8, state: u8) -> bool
     ensures { result ≡ stands k role state }
 {
-    if associating(k) {} else {
-        return true;
-    }
-    if associates(role) {} else {
-        return false;
-    }
-    Record::STATE_2 <= state
+    !associating(k) || (associates(role) && Record::STATE_2 <= state)
 }
 
+#[tactic(auto, unfolding(crate::specs::Fit::asked_fits))]
 fn asked_fits(k: Kind, role: u8, state: u8, left: u16) -> bool
     ensures { result ≡ asked_fits k role state left }
 {
-    if answers(role) {} else {
-        return false;
-    }
-    if left != 0 {
-        return false;
-    }
-    standing(k, role, state)
+    answers(role) && left == 0 && standing(k, role, state)
 }
 
+#[tactic(auto, unfolding(crate::specs::Fit::awaiting_fits))]
 fn awaiting_fits(k: Kind, role: u8, state: u8, left: u16) -> bool
     ensures { result ≡ awaiting_fits k role state left }
 {
-    if associating(k) {
-        asked_fits(k, role, state, left)
-    } else {
-        false
-    }
+    associating(k) && asked_fits(k, role, state, left)
 }
 
+#[tactic(auto, unfolding(crate::specs::Fit::sent_fits, crate::specs::Settings::time_fits))]
 fn sent_fits(k: Kind, role: u8, state: u8, left: u16) -> bool
     ensures { result ≡ sent_fits k role state left }
 {
-    if asks(role) {} else {
-        return false;
-    }
-    if left == 0 {
-        return false;
-    }
-    standing(k, role, state)
+    asks(role) && left != 0 && standing(k, role, state)
 }
 
 // Whether a hold fits the role.
+#[tactic(auto, unfolding(crate::specs::Fit::hold_fits))]
 pub fn hold_fits(role: u8, hold: u32) -> bool
     ensures { result ≡ hold_fits role hold }
 {
-    if asks(role) {
-        return true;
-    }
-    hold == 0
+    asks(role) || hold == 0
 }
 
 // Whether an exchange fits the role, the state and the time left.
+// Role, state and time left one by one: this is public and takes them so.
 pub fn exchange_fits(e: Exchange, role: u8, state: u8, left: u16) -> bool
     ensures { result ≡ exchange_fits e role state left }
 {
@@ -80,25 +61,18 @@ pub fn exchange_fits(e: Exchange, role: u8, state: u8, left: u16) -> bool
 }
 
 // Whether a query or its mark may stand in a state.
+#[tactic(auto, unfolding(crate::specs::Fit::query_stands))]
 fn query_stands(s: Settings, state: u8) -> bool
     ensures { result ≡ query_stands s state }
 {
-    if s.role != Settings::AP {
-        return false;
-    }
-    state == Record::STATE_4
+    s.role == Settings::AP && state == Record::STATE_4
 }
 
+#[tactic(auto, unfolding(crate::specs::Fit::running_fits))]
 fn running_fits(s: Settings, state: u8, left: u16) -> bool
     ensures { result ≡ running_fits s state left }
 {
-    if left == 0 {
-        return false;
-    }
-    if s.maximum < left {
-        return false;
-    }
-    query_stands(s, state)
+    left != 0 && left <= s.maximum && query_stands(s, state)
 }
 
 // Whether a query fits the settings and the state.
@@ -107,66 +81,48 @@ fn query_fits(s: Settings, state: u8, q: Query) -> bool
 {
     match q {
         Query::None => true,
-        Query::Running { left, due: _ } => running_fits(s, state, left),
+        Query::Running { left, .. } => running_fits(s, state, left),
         Query::TimedOut => query_stands(s, state),
     }
 }
 
 // Whether a record's query fits; its identifier may be any.
+#[tactic(auto, unfolding(crate::specs::Fit::query_allowed))]
 fn query_allowed(s: Settings, p: Record) -> bool
     ensures { result ≡ query_allowed s p }
 {
-    let q = p.query;
-    query_fits(s, p.state, q)
+    query_fits(s, p.state, p.query)
 }
 
 // Whether a slot has no link, or a valid one that is not our own, behind an address.
+#[tactic(auto, unfolding(crate::specs::Fit::slot_fits))]
 fn slot_fits(own: u64, before: u64, link: u64) -> bool
     ensures { result ≡ slot_fits own before link }
 {
-    if link == 0 {
-        return true;
-    }
-    if before == 0 {
-        return false;
-    }
-    if link == own {
-        return false;
-    }
-    valid(link)
+    link == 0 || (before != 0 && link != own && valid(link))
 }
 
 // Whether links are addresses that may stand at a device, and fill the slots from the first on.
+#[tactic(auto, unfolding(crate::specs::Fit::links_stand))]
 pub fn links_stand(own: u64, address: u64, links: Links) -> bool
     ensures { result ≡ links_stand own address links }
 {
-    if slot_fits(own, address, links.one) {} else {
-        return false;
-    }
-    if slot_fits(own, links.one, links.two) {} else {
-        return false;
-    }
-    if slot_fits(own, links.two, links.three) {} else {
-        return false;
-    }
-    slot_fits(own, links.three, links.four)
+    slot_fits(own, address, links.one)
+        && slot_fits(own, links.one, links.two)
+        && slot_fits(own, links.two, links.three)
+        && slot_fits(own, links.three, links.four)
 }
 
 // Whether a record's links fit: none, or at an AP.
+#[tactic(auto, unfolding(crate::specs::Fit::links_fit))]
 fn links_fit(s: Settings, p: Record) -> bool
     ensures { result ≡ links_fit s p }
 {
-    let links = p.links;
-    if links.is_none() {
-        return true;
-    }
-    if s.role != Settings::AP {
-        return false;
-    }
-    links_stand(s.own, p.address, links)
+    p.links.is_none() || (s.role == Settings::AP && links_stand(s.own, p.address, p.links))
 }
 
 // The highest state there is at a role.
+#[tactic(auto, unfolding(crate::specs::Fit::highest_state))]
 pub fn highest(role: u8) -> u8
     ensures { result ≡ highest_state role }
 {
@@ -178,39 +134,24 @@ pub fn highest(role: u8) -> u8
 }
 
 // Whether a record that is no free place is well formed by itself.
+#[tactic(auto, unfolding(crate::specs::Fit::record_fits))]
 fn record_fits(s: Settings, p: Record) -> bool
     ensures { result ≡ record_fits s p }
 {
-    let a = p.address;
-    let state = p.state;
-    let e = p.exchange;
-    if state < Record::STATE_1 {
-        return false;
-    }
-    if highest(s.role) < state {
-        return false;
-    }
-    if a == s.own {
-        return false;
-    }
-    if valid(a) {} else {
-        return false;
-    }
-    if hold_fits(s.role, p.hold) {} else {
-        return false;
-    }
-    if exchange_fits(e, s.role, state, p.left) {} else {
-        return false;
-    }
-    if query_allowed(s, p) {} else {
-        return false;
-    }
-    links_fit(s, p)
+    Record::STATE_1 <= p.state
+        && p.state <= highest(s.role)
+        && p.address != s.own
+        && valid(p.address)
+        && hold_fits(s.role, p.hold)
+        && exchange_fits(p.exchange, s.role, p.state, p.left)
+        && query_allowed(s, p)
+        && links_fit(s, p)
 }
 
 // Whether a place is free or its record well formed by itself.
+#[tactic(auto, unfolding(crate::specs::Fit::place_fits))]
 pub fn place_fits(s: Settings, p: Record) -> bool
     ensures { result ≡ place_fits s p }
 {
-    if p.is_free() { true } else { record_fits(s, p) }
+    p.is_free() || record_fits(s, p)
 }

@@ -1,7 +1,6 @@
 // What a frame from one peer does: the class filter, the group rule, then what is heard.
-ghost use Rattle.std.specs.Prelude.{◌≡◌, true};
+ghost use Rattle.std.specs.Prelude.{◌≡◌};
 ghost use Rattle.octets.specs.Sort.{class_by};
-ghost use Rattle.octets.specs.declared.heard.Heard.TheVariants as heard;
 ghost use Rattle.peer.specs.Hear.{act_of, group_heard, hear_of, is_exchange, is_query};
 
 use crate::association::{request_heard, response_heard};
@@ -20,47 +19,16 @@ use octets::sort::{Sort, class_by};
 pub(crate) fn is_exchange(h: Heard) -> bool
     ensures { result ≡ is_exchange h }
 {
-    match h {
-        Heard::Other => false,
-        Heard::Authentication { .. } => true,
-        Heard::Deauthentication(_) => false,
-        Heard::Disassociation(_) => false,
-        Heard::Request { .. } => true,
-        Heard::Response { .. } => true,
-        Heard::QueryRequest(_) => false,
-        Heard::QueryResponse(_) => false,
-    }
+    matches!(
+        h,
+        Heard::Authentication { .. } | Heard::Request { .. } | Heard::Response { .. }
+    )
 }
 
 pub(crate) fn is_query(h: Heard) -> bool
     ensures { result ≡ is_query h }
 {
-    match h {
-        Heard::Other => false,
-        Heard::Authentication { .. } => false,
-        Heard::Deauthentication(_) => false,
-        Heard::Disassociation(_) => false,
-        Heard::Request { .. } => false,
-        Heard::Response { .. } => false,
-        Heard::QueryRequest(_) => true,
-        Heard::QueryResponse(_) => true,
-    }
-}
-
-// Whether what is heard changes nothing: data, beacons and all else that has no words of its own here.
-fn is_other(h: Heard) -> bool
-    ensures { result ≡ true → h ≡ heard.Other }
-{
-    match h {
-        Heard::Other => true,
-        Heard::Authentication { .. } => false,
-        Heard::Deauthentication(_) => false,
-        Heard::Disassociation(_) => false,
-        Heard::Request { .. } => false,
-        Heard::Response { .. } => false,
-        Heard::QueryRequest(_) => false,
-        Heard::QueryResponse(_) => false,
-    }
+    matches!(h, Heard::QueryRequest(_) | Heard::QueryResponse(_))
 }
 
 // What a frame does that passed the filter and the group rule.
@@ -89,6 +57,7 @@ fn act(s: Settings, p: Record, h: Heard) -> Turn
 }
 
 // The group rule.
+#[tactic(auto, unfolding(crate::specs::Hear::group_heard))]
 fn group_heard(s: Settings, p: Record, h: Heard) -> Turn
     ensures { result ≡ group_heard s p h }
 {
@@ -102,14 +71,15 @@ fn group_heard(s: Settings, p: Record, h: Heard) -> Turn
 }
 
 // What a frame from a peer makes of it.
+#[tactic(auto, unfolding(crate::specs::Hear::hear_of, crate::specs::Hear::group_heard))]
 pub fn hear(s: Settings, p: Record, sort: Sort, group: bool, h: Heard) -> Turn
     ensures { result ≡ hear_of s p (class_by sort) group h }
 {
-    if passes_by(s.role, sort, p.state) {} else {
+    if !passes_by(s.role, sort, p.state) {
         return replied(s, p, Turn::DISCARD, barred(s, p, class_by(sort), group, h));
     }
-    // Most frames end here, and the compiler need not call `act` for them.
-    if is_other(h) {
+    // Most frames end here, data and beacons, and the compiler need not call `act` for them.
+    if matches!(h, Heard::Other) {
         return still(s, p, Turn::ADMIT);
     }
     if group {

@@ -1,5 +1,7 @@
 // One peer: settings, a record, and what one frame, primitive or clock step makes of it. It sees no octets; of other
 // records it is told what it needs.
+// Settings and record are two parameters throughout: each definition and theorem of specs/ has them so, and a struct of both would be taken apart in
+// every clause.
 #![tactic(auto)]
 
 pub mod ask;

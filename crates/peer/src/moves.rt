@@ -62,7 +62,7 @@ pub fn moved(rsna: u8, state: u8, m: Move) -> u8
     }
 }
 
-// What the distribution system is told.
+// What the distribution system is told: numbers, as `ds` promises one and `Answer` hands it to a host.
 pub const DS_NONE: u8 = 0;
 
 pub const DS_JOINED: u8 = 1;
@@ -70,23 +70,16 @@ pub const DS_JOINED: u8 = 1;
 pub const DS_LEFT: u8 = 2;
 
 // What it is told when a state goes from one to another.
+#[tactic(auto, unfolding(crate::specs::Moves::ds_of))]
 pub fn ds(role: u8, before: u8, after: u8) -> u8
     ensures { result ≡ ds_of role before after }
 {
     if role != Settings::AP {
         return DS_NONE;
     }
-    if before < Record::STATE_3 {
-        if Record::STATE_3 <= after {
-            DS_JOINED
-        } else {
-            DS_NONE
-        }
-    } else {
-        if after < Record::STATE_3 {
-            DS_LEFT
-        } else {
-            DS_NONE
-        }
+    match (Record::STATE_3 <= before, Record::STATE_3 <= after) {
+        (false, true) => DS_JOINED,
+        (true, false) => DS_LEFT,
+        _ => DS_NONE,
     }
 }

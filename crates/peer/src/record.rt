@@ -26,6 +26,7 @@ pub struct Record {
 }
 
 impl Record {
+    // The states by number, as document 01 compares them; a record may come in with any, and `place_fits` says whether it is one.
     pub const STATE_1: u8 = 1;
 
     pub const STATE_2: u8 = 2;
@@ -38,18 +39,14 @@ impl Record {
     pub const HOLD: u32 = 1954;
 
     // A record as it is when its peer is first heard of.
+    #[tactic(auto, unfolding(crate::specs::Record::fresh_of))]
     pub fn fresh(address: u64) -> Record
         ensures { result ≡ fresh_of address }
     {
         Record {
             address,
             state: Record::STATE_1,
-            exchange: Exchange::None,
-            left: 0,
-            hold: 0,
-            query: Query::None,
-            identifier: 0,
-            links: Links::none(),
+            ..Record::free()
         }
     }
 
@@ -70,103 +67,69 @@ impl Record {
     }
 
     // The record of the same peer with another state, exchange and times. A query ends where State 4 does.
+    #[tactic(auto, unfolding(crate::specs::Record::changed_of))]
     pub fn changed(self, state: u8, exchange: Exchange, left: u16, hold: u32) -> Record
         ensures { result ≡ changed_of self state exchange left hold }
     {
-        let query = self.query;
-        let links = self.links;
         Record {
-            address: self.address,
             state,
             exchange,
             left,
             hold,
-            query: query_in(state, query),
-            identifier: self.identifier,
-            links,
+            query: query_in(state, self.query),
+            ..self
         }
     }
 
     // The same record with another query.
+    #[tactic(auto, unfolding(crate::specs::Record::queried_of))]
     pub fn queried(self, query: Query, identifier: u16) -> Record
         ensures { result ≡ queried_of self query identifier }
     {
-        let exchange = self.exchange;
-        let links = self.links;
         Record {
-            address: self.address,
-            state: self.state,
-            exchange,
-            left: self.left,
-            hold: self.hold,
             query,
             identifier,
-            links,
+            ..self
         }
     }
 
     // The same record with other links.
+    #[tactic(auto, unfolding(crate::specs::Record::linked_of))]
     pub fn linked(self, links: Links) -> Record
         ensures { result ≡ linked_of self links }
     {
-        let exchange = self.exchange;
-        let query = self.query;
-        Record {
-            address: self.address,
-            state: self.state,
-            exchange,
-            left: self.left,
-            hold: self.hold,
-            query,
-            identifier: self.identifier,
-            links,
-        }
+        Record { links, ..self }
     }
 
     // The address that our own frames go to: the first link's, or the device's.
+    #[tactic(auto, unfolding(crate::specs::Record::spoken_at))]
     pub fn spoken_at(self) -> u64
         ensures { result ≡ spoken_at self }
     {
-        let links = self.links;
-        if links.one == 0 {
+        if self.links.one == 0 {
             self.address
         } else {
-            links.one
+            self.links.one
         }
     }
 
-    // Whether a place is free: all zero.
+    // Whether a place is free: all zero. `self == Record::free()` and `==` on the query were tried, and the proof did not close.
+    #[tactic(auto, unfolding(crate::specs::Record::is_free))]
     pub fn is_free(self) -> bool
         ensures { result ≡ is_free self }
     {
-        if self.address != 0 {
-            return false;
-        }
-        if self.state != 0 {
-            return false;
-        }
-        if self.left != 0 {
-            return false;
-        }
-        if self.hold != 0 {
-            return false;
-        }
-        if self.identifier != 0 {
-            return false;
-        }
-        let q = self.query;
-        if query_number(q) != 0 {
-            return false;
-        }
-        let links = self.links;
-        if links.is_none() {} else {
-            return false;
-        }
-        let e = self.exchange;
-        under_way(e) == 0
+        self.address == 0
+            && self.state == 0
+            && self.left == 0
+            && self.hold == 0
+            && self.identifier == 0
+            && query_number(self.query) == 0
+            && self.links.is_none()
+            && under_way(self.exchange) == 0
     }
 
     // Whether the peer is associated: State 3 or 4.
+    #[tactic(auto, unfolding(crate::specs::Record::is_joined))]
     pub fn is_joined(self) -> bool
         ensures { result ≡ is_joined self }
     {
@@ -174,10 +137,13 @@ impl Record {
     }
 
     // Whether a (re)association is under way.
+    #[tactic(auto, unfolding(crate::specs::Record::associates))]
     pub fn is_associating(self) -> bool
         ensures { result ≡ associates self }
     {
-        let e = self.exchange;
-        ASSOCIATION <= under_way(e)
+        match self.exchange {
+            Exchange::None => false,
+            Exchange::Asked(k) | Exchange::Awaiting(k) | Exchange::Sent(k) => associating(k),
+        }
     }
 }

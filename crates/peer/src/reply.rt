@@ -6,40 +6,36 @@ use crate::settings::Settings;
 use octets::frame::{Body, Frame, capability};
 use octets::heard::Kind;
 
-#[derive(Clone, Copy)]
-pub enum Reply {
-    Silent,
-    Send(Frame),
-}
+// The frame that is said, or `None` where nothing is.
+pub type Reply = Option<Frame>;
 
 // Address 3: the AP's, or the ad hoc network's.
+#[tactic(auto, unfolding(crate::specs::Reply::network_address))]
 fn network_address(s: Settings, peer: u64) -> u64
     ensures { result ≡ network_address s peer }
 {
-    if s.role == Settings::AP {
-        return s.own;
-    }
-    if s.role == Settings::AD_HOC {
-        s.network
-    } else {
-        peer
+    match s.role {
+        Settings::AP => s.own,
+        Settings::AD_HOC => s.network,
+        _ => peer,
     }
 }
 
 // A frame to a peer.
+#[tactic(auto, unfolding(crate::specs::Reply::send_of))]
 fn send(s: Settings, peer: u64, subtype: u8, body: Body) -> Reply
     ensures { result ≡ send_of s peer subtype body }
 {
-    let address3 = network_address(s, peer);
-    Reply::Send(Frame {
+    Some(Frame {
         subtype,
         address1: peer,
         address2: s.own,
-        address3,
+        address3: network_address(s, peer),
         body,
     })
 }
 
+#[tactic(auto, unfolding(crate::specs::Reply::authentication_to))]
 pub fn authentication(
     s: Settings,
     peer: u64,
@@ -61,12 +57,14 @@ pub fn authentication(
     )
 }
 
+#[tactic(auto, unfolding(crate::specs::Reply::deauthentication_to))]
 pub fn deauthentication(s: Settings, peer: u64, reason: u16) -> Reply
     ensures { result ≡ deauthentication_to s peer reason }
 {
     send(s, peer, Frame::DEAUTHENTICATION, Body::Reason(reason))
 }
 
+#[tactic(auto, unfolding(crate::specs::Reply::disassociation_to))]
 pub fn disassociation(s: Settings, peer: u64, reason: u16) -> Reply
     ensures { result ≡ disassociation_to s peer reason }
 {
@@ -112,51 +110,42 @@ fn request_body(k: Kind, capability: u16, current: u64) -> Body
 }
 
 // The request that starts an exchange; a reassociation's with the current AP.
+#[tactic(auto, unfolding(crate::specs::Reply::request_to))]
 pub fn request(s: Settings, peer: u64, k: Kind, current: u64) -> Reply
     ensures { result ≡ request_to s peer k current }
 {
-    let subtype = request_subtype(k);
     let body = request_body(k, capability(s.rsna), current);
-    send(s, peer, subtype, body)
+    send(s, peer, request_subtype(k), body)
 }
 
 // A (re)association response.
+#[tactic(auto, unfolding(crate::specs::Reply::response_to))]
 pub fn response(s: Settings, peer: u64, k: Kind, status: u16, aid: u16) -> Reply
     ensures { result ≡ response_to s peer k status aid }
 {
-    let subtype = response_subtype(k);
-    let capability = capability(s.rsna);
-    send(
-        s,
-        peer,
-        subtype,
-        Body::Response {
-            capability,
-            status,
-            aid,
-        },
-    )
+    let body = Body::Response {
+        capability: capability(s.rsna),
+        status,
+        aid,
+    };
+    send(s, peer, response_subtype(k), body)
 }
 
 // A (re)association response that says when to come back.
+#[tactic(auto, unfolding(crate::specs::Reply::later_to))]
 pub fn later(s: Settings, peer: u64, k: Kind, status: u16, time: u32) -> Reply
     ensures { result ≡ later_to s peer k status time }
 {
-    let subtype = response_subtype(k);
-    let capability = capability(s.rsna);
-    send(
-        s,
-        peer,
-        subtype,
-        Body::Later {
-            capability,
-            status,
-            time,
-        },
-    )
+    let body = Body::Later {
+        capability: capability(s.rsna),
+        status,
+        time,
+    };
+    send(s, peer, response_subtype(k), body)
 }
 
 // An SA Query, request or response.
+#[tactic(auto, unfolding(crate::specs::Reply::query_to))]
 pub fn query(s: Settings, peer: u64, action: u8, identifier: u16) -> Reply
     ensures { result ≡ query_to s peer action identifier }
 {
@@ -167,17 +156,8 @@ pub fn query(s: Settings, peer: u64, action: u8, identifier: u16) -> Reply
 pub fn directed(reply: Reply, address: u64) -> Reply
     ensures { result ≡ directed_of address reply }
 {
-    match reply {
-        Reply::Silent => Reply::Silent,
-        Reply::Send(f) => {
-            let body = f.body;
-            Reply::Send(Frame {
-                subtype: f.subtype,
-                address1: address,
-                address2: f.address2,
-                address3: f.address3,
-                body,
-            })
-        }
-    }
+    reply.map(|f| Frame {
+        address1: address,
+        ..f
+    })
 }

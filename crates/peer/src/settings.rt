@@ -26,6 +26,7 @@ pub struct Settings {
 }
 
 // Whether a role sends requests.
+#[tactic(auto, unfolding(crate::specs::Settings::role_asks))]
 pub fn asks(role: u8) -> bool
     ensures { result ≡ role_asks role }
 {
@@ -33,6 +34,7 @@ pub fn asks(role: u8) -> bool
 }
 
 // Whether a role answers requests for authentication.
+#[tactic(auto, unfolding(crate::specs::Settings::role_answers))]
 pub fn answers(role: u8) -> bool
     ensures { result ≡ role_answers role }
 {
@@ -40,6 +42,7 @@ pub fn answers(role: u8) -> bool
 }
 
 // Whether a role takes part in associations.
+#[tactic(auto, unfolding(crate::specs::Settings::role_associates))]
 pub fn associates(role: u8) -> bool
     ensures { result ≡ role_associates role }
 {
@@ -47,6 +50,7 @@ pub fn associates(role: u8) -> bool
 }
 
 impl Settings {
+    // The roles, numbers and no enum: any may come in, and `fit` says whether it is a role.
     pub const AP: u8 = 1;
 
     pub const STATION: u8 = 2;
@@ -54,64 +58,36 @@ impl Settings {
     pub const AD_HOC: u8 = 3;
 
     // Whether the times of a query are in range.
+    #[tactic(auto, unfolding(crate::specs::Settings::query_times_fit, crate::specs::Settings::time_fits))]
     fn query_times_fit(self) -> bool
         ensures { result ≡ query_times_fit self }
     {
-        if self.retry == 0 {
-            return false;
-        }
-        if self.maximum == 0 {
-            return false;
-        }
-        true
+        self.retry != 0 && self.maximum != 0
     }
 
     // Whether an ad hoc network has a valid address.
+    #[tactic(auto, unfolding(crate::specs::Settings::network_fits))]
     fn network_fits(self) -> bool
         ensures { result ≡ network_fits self }
     {
-        if associates(self.role) {
-            return true;
-        }
-        let network = self.network;
-        valid(network)
+        associates(self.role) || valid(self.network)
     }
 
     // Whether the settings are in range and the own address is valid.
+    #[tactic(auto, unfolding(crate::specs::Settings::settings_fit, crate::specs::Settings::time_fits))]
     pub fn fit(self) -> bool
         ensures { result ≡ settings_fit self }
     {
-        if self.role == 0 {
-            return false;
-        }
-        if 3 < self.role {
-            return false;
-        }
-        if 1 < self.rsna {
-            return false;
-        }
-        if self.authentication == 0 {
-            return false;
-        }
-        if self.association == 0 {
-            return false;
-        }
-        if 1 < self.protection {
-            return false;
-        }
-        if self.edition == 0 {
-            return false;
-        }
-        if 2 < self.edition {
-            return false;
-        }
-        if self.query_times_fit() {} else {
-            return false;
-        }
-        if self.network_fits() {} else {
-            return false;
-        }
-        let own = self.own;
-        valid(own)
+        self.role != 0
+            && self.role <= 3
+            && self.rsna <= 1
+            && self.authentication != 0
+            && self.association != 0
+            && self.protection <= 1
+            && self.edition != 0
+            && self.edition <= 2
+            && self.query_times_fit()
+            && self.network_fits()
+            && valid(self.own)
     }
 }

@@ -33,6 +33,7 @@ pub fn confirm(k: Kind) -> u8
 }
 
 // What our own side is told: a notice with its code, and the current AP of a reassociation's indication.
+// Notice 0 is none: `nothing_told` is all 0, and `Answer` hands all three to C.
 #[derive(Clone, Copy)]
 pub struct Told {
     pub notice: u8,
@@ -41,6 +42,7 @@ pub struct Told {
 }
 
 impl Told {
+    // The notices are numbers: `Told::of` takes any, and `Answer` hands them to a host.
     pub const AUTHENTICATION_INDICATION: u8 = 1;
 
     pub const AUTHENTICATION_CONFIRM: u8 = 2;
@@ -95,7 +97,7 @@ pub struct Turn {
 }
 
 impl Turn {
-    // Verdicts.
+    // Verdicts: numbers, as `Turn::of`, `replied` and `still` take any, and `Answer` hands them to a host.
     pub const NONE: u8 = 0;
 
     pub const ADMIT: u8 = 1;
@@ -103,6 +105,7 @@ impl Turn {
     pub const DISCARD: u8 = 2;
 
     // A record goes from `before` to `after`.
+    #[tactic(auto, unfolding(crate::specs::Turn::turn_of))]
     pub fn of(
         s: Settings,
         before: Record,
@@ -113,53 +116,38 @@ impl Turn {
     ) -> Turn
         ensures { result ≡ turn_of s before after verdict told reply }
     {
-        let ds = ds(s.role, before.state, after.state);
         Turn {
             peer: after,
             told,
             verdict,
-            ds,
+            ds: ds(s.role, before.state, after.state),
             sole: false,
             reply,
         }
     }
 
     // The same, and no other record stays in State 3 or 4.
+    #[tactic(auto, unfolding(crate::specs::Turn::sole_of))]
     pub fn solely(self) -> Turn
         ensures { result ≡ sole_of self }
     {
-        let peer = self.peer;
-        let told = self.told;
-        let reply = self.reply;
-        Turn {
-            peer,
-            told,
-            verdict: self.verdict,
-            ds: self.ds,
-            sole: true,
-            reply,
-        }
+        Turn { sole: true, ..self }
     }
 
     // The same, with what is said sent to an address of the peer.
+    #[tactic(auto, unfolding(crate::specs::Turn::towards_of))]
     pub fn towards(self, address: u64) -> Turn
         ensures { result ≡ towards_of address self }
     {
-        let peer = self.peer;
-        let told = self.told;
-        let reply = self.reply;
         Turn {
-            peer,
-            told,
-            verdict: self.verdict,
-            ds: self.ds,
-            sole: self.sole,
-            reply: directed(reply, address),
+            reply: directed(self.reply, address),
+            ..self
         }
     }
 }
 
 // The record after a move that ends the exchange, with a hold.
+#[tactic(auto, unfolding(crate::specs::Turn::ended_of))]
 pub fn ended(s: Settings, p: Record, m: Move, hold: u32) -> Record
     ensures { result ≡ ended_of s p m hold }
 {
@@ -168,6 +156,7 @@ pub fn ended(s: Settings, p: Record, m: Move, hold: u32) -> Record
 }
 
 // The record with an exchange begun, in place of any other; its state and its hold stay.
+#[tactic(auto, unfolding(crate::specs::Turn::begun_of))]
 pub fn begun(p: Record, e: Exchange, left: u16) -> Record
     ensures { result ≡ begun_of p e left }
 {
@@ -175,6 +164,7 @@ pub fn begun(p: Record, e: Exchange, left: u16) -> Record
 }
 
 // The record stays; what is said is a reply.
+#[tactic(auto, unfolding(crate::specs::Turn::replied_of))]
 pub fn replied(s: Settings, p: Record, verdict: u8, reply: Reply) -> Turn
     ensures { result ≡ replied_of s p verdict reply }
 {
@@ -182,22 +172,17 @@ pub fn replied(s: Settings, p: Record, verdict: u8, reply: Reply) -> Turn
 }
 
 // Nothing happens.
+#[tactic(auto, unfolding(crate::specs::Turn::still_of))]
 pub fn still(s: Settings, p: Record, verdict: u8) -> Turn
     ensures { result ≡ still_of s p verdict }
 {
-    replied(s, p, verdict, Reply::Silent)
+    replied(s, p, verdict, None)
 }
 
 // A device's links are named: all else stays.
+#[tactic(auto, unfolding(crate::specs::Turn::linking_of))]
 pub fn linking(s: Settings, p: Record, links: Links) -> Turn
     ensures { result ≡ linking_of s p links }
 {
-    Turn::of(
-        s,
-        p,
-        p.linked(links),
-        Turn::NONE,
-        Told::nothing(),
-        Reply::Silent,
-    )
+    Turn::of(s, p, p.linked(links), Turn::NONE, Told::nothing(), None)
 }

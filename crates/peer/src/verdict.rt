@@ -12,6 +12,7 @@ use crate::settings::associates;
 use octets::class::listed;
 use octets::sort::Sort;
 
+// The table is of numbers, as document 02 (K3) names it.
 // The verdict's number of a frame that passes. 0: it has no class; 2: it does not pass.
 const PASSES: u8 = 1;
 
@@ -280,6 +281,7 @@ const VERDICTS: [u8; 256] = [
 ];
 
 // The verdict at a place of the table.
+#[tactic(auto, unfolding(crate::specs::Verdict::verdict_of))]
 fn entry(i: usize) -> u8
     requires { i < 256 }
     ensures { result ≡ verdict_of (listed_class (i % 64 * 4)) (i / 64 + 1) }
@@ -288,6 +290,7 @@ fn entry(i: usize) -> u8
 }
 
 // The verdict in a state, by Frame Control's first octet.
+#[tactic(auto, using(crate::proofs::Verdicts::place_gives))]
 fn verdict(first: u8, state: u8) -> u8
     requires { (1 ≤ state) × (state ≤ 4) }
     ensures { result ≡ verdict_of (listed_class first) state }
@@ -296,19 +299,15 @@ fn verdict(first: u8, state: u8) -> u8
 }
 
 // Whether a frame of the list passes. The table is not asked in an ad hoc network, nor in a state that no well-formed record has.
+#[tactic(auto, using(crate::proofs::Verdicts::passes_verdict))]
 fn passes_listed(role: u8, first: u8, state: u8) -> bool
     ensures { result ≡ passes_of role (listed_class first) state }
 {
-    if associates(role) {} else {
-        return passes(role, listed(first), state);
+    if associates(role) && Record::STATE_1 <= state && state <= Record::STATE_4 {
+        verdict(first, state) == PASSES
+    } else {
+        passes(role, listed(first), state)
     }
-    if state < Record::STATE_1 {
-        return passes(role, listed(first), state);
-    }
-    if Record::STATE_4 < state {
-        return passes(role, listed(first), state);
-    }
-    verdict(first, state) == PASSES
 }
 
 // Whether a frame passes, by how its class is known.

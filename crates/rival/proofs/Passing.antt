@@ -1,12 +1,11 @@
 -- The loop of `compare`, and how what is said goes on from where it got to.
 -- Assumes nothing.
-use Prim.Native.Nat.{ℕ, zero, suc, ◌+◌, ◌≤◌, ◌<◌}
+use Prim.Native.Nat.{ℕ, suc, ◌+◌, ◌≤◌, ◌<◌}
 use mathlib.Core.Path.{◌≡◌, refl, ◌∙◌}
 use mathlib.Core.Bool.{true, false}
 use mathlib.Core.List.{List, [], ◌∷◌, ◌++◌, append-nil}
-use native.Mathlib.Numerals.{add-one}
 use native.Mathlib.Omega.{arith}
-use lib.ListN.{length, get_or, drop, drop_of_length-le, get_or-eq_default}
+use lib.ListN.{length, get_or, drop, drop_of_length-le}
 use lib.Seq.{drop-cons}
 use Rattle.octets.proofs.Branch.{by_bool}
 use Rattle.rival.specs.Beside.{alone_of, beside_of, compared_of, differs_in, other_field, said_by}
@@ -27,10 +26,16 @@ after_none p =
     rw z
 
 -- nothing is taken where either has ended, or the two came apart
-no_more : (s : Standing) (xs : List ℕ) → compared_of s xs [] ≡ none s
+none_left : (s : Standing) (xs ys : List ℕ) → length xs ≡ 0 → compared_of s xs ys ≡ none s
 unfolding compared_of
-no_more s [] = refl
-no_more s (x ∷ xs) = refl
+none_left s [] ys h = refl
+none_left s (x ∷ xs) ys h = absurd (omega arith)
+
+no_more : (s : Standing) (xs ys : List ℕ) → length ys ≡ 0 → compared_of s xs ys ≡ none s
+unfolding compared_of
+no_more s [] ys h = refl
+no_more s (x ∷ xs) [] h = refl
+no_more s (x ∷ xs) (y ∷ ys) h = absurd (omega arith)
 
 came_apart : (s : Standing) (xs ys : List ℕ) → s.apart ≡ true → compared_of s xs ys ≡ none s
 unfolding compared_of
@@ -43,28 +48,28 @@ stopped t i p q e h =
     let z : i + 0 ≡ i = omega arith in
     rw (← e, h, z)
 
-module _ (s t : Standing) (xs ys : List ℕ) (i : ℕ) (e : after i (compared_of t (drop i xs) (drop i ys)) ≡ compared_of s xs ys) where
-  pub ours_ended : length xs ≤ i → record { standing = t; taken = i } ≡ compared_of s xs ys
-  unfolding compared_of
-  ours_ended h = stopped t i (compared_of t (drop i xs) (drop i ys)) (compared_of s xs ys) e (rw (drop_of_length-le xs h))
+-- us and vs are left of xs and ys, and i octets of both were taken
+module _ (s t : Standing) (xs ys us vs : List ℕ) (i : ℕ) (e : after i (compared_of t us vs) ≡ compared_of s xs ys) where
+  pub ours_ended : length us ≡ 0 → record { standing = t; taken = i } ≡ compared_of s xs ys
+  ours_ended h = stopped t i (compared_of t us vs) (compared_of s xs ys) e (none_left t us vs h)
 
-  pub theirs_ended : length ys ≤ i → record { standing = t; taken = i } ≡ compared_of s xs ys
-  theirs_ended h = stopped t i (compared_of t (drop i xs) (drop i ys)) (compared_of s xs ys) e (rw (drop_of_length-le ys h) (no_more t (drop i xs)))
+  pub theirs_ended : length vs ≡ 0 → record { standing = t; taken = i } ≡ compared_of s xs ys
+  theirs_ended h = stopped t i (compared_of t us vs) (compared_of s xs ys) e (no_more t us vs h)
 
   pub both_stop : t.apart ≡ true → record { standing = t; taken = i } ≡ compared_of s xs ys
-  both_stop h = stopped t i (compared_of t (drop i xs) (drop i ys)) (compared_of s xs ys) e (came_apart t (drop i xs) (drop i ys) h)
+  both_stop h = stopped t i (compared_of t us vs) (compared_of s xs ys) e (came_apart t us vs h)
 
-  one_on : i < length xs → i < length ys → t.apart ≡ false →
-      after (i + 1) (compared_of (beside_of t (get_or xs i 0) (get_or ys i 0)) (drop (i + 1) xs) (drop (i + 1) ys)) ≡ after i (compared_of t (drop i xs) (drop i ys))
+  one_on : (x y : ℕ) (ps qs : List ℕ) → us ≡ x ∷ ps → vs ≡ y ∷ qs → t.apart ≡ false →
+      after (i + 1) (compared_of (beside_of t x y) ps qs) ≡ after i (compared_of t us vs)
   unfolding compared_of beside_of
-  one_on h g a =
-      let p = compared_of (beside_of t (get_or xs i 0) (get_or ys i 0)) (drop (suc i) xs) (drop (suc i) ys) in
-      let z : suc i + p.taken ≡ i + suc p.taken = omega arith in
-      rw (add-one, drop-cons xs i 0 h, drop-cons ys i 0 g, a, z)
+  one_on x y ps qs h g a =
+      let p = compared_of (beside_of t x y) ps qs in
+      let z : i + 1 + p.taken ≡ i + suc p.taken = omega arith in
+      rw (h, g, a, z)
 
-  pub both_on : i < length xs → i < length ys → t.apart ≡ false →
-      after (i + 1) (compared_of (beside_of t (get_or xs i 0) (get_or ys i 0)) (drop (i + 1) xs) (drop (i + 1) ys)) ≡ compared_of s xs ys
-  both_on h g a = one_on h g a ∙ e
+  pub both_on : (x y : ℕ) (ps qs : List ℕ) → us ≡ x ∷ ps → vs ≡ y ∷ qs → t.apart ≡ false →
+      after (i + 1) (compared_of (beside_of t x y) ps qs) ≡ compared_of s xs ys
+  both_on x y ps qs h g a = one_on x y ps qs h g a ∙ e
 
 -- Of two that came apart the same is said whatever follows.
 pub said_apart : (s : Standing) (xs ys : List ℕ) → s.apart ≡ true → said_by s xs ys ≡ differs_in s s.field
@@ -112,12 +117,6 @@ taken_theirs s [] ys = omega arith
 taken_theirs s (x ∷ xs) [] = omega arith
 taken_theirs s (x ∷ xs) (y ∷ ys) = by_bool s.apart (λ e. rw e (omega arith)) (λ e. rw e (omega (arith, taken_theirs (beside_of s x y) xs ys)))
 
--- An octet that is there is the same whatever stands for one that is not.
-pub any_default : (l : List ℕ) (i a b : ℕ) → i < length l → get_or l i a ≡ get_or l i b
-any_default [] i a b h = absurd (omega arith)
-any_default (x ∷ l) zero a b h = refl
-any_default (x ∷ l) (suc i) a b h = any_default l i a b (omega arith)
-
 -- the ends of `ending`
 module _ (s : Standing) (xs ys : List ℕ) (p : Passed) (e : p ≡ compared_of s xs ys) where
   on : said_by s xs ys ≡ said_by p.standing (drop p.taken xs) (drop p.taken ys)
@@ -128,19 +127,18 @@ module _ (s : Standing) (xs ys : List ℕ) (p : Passed) (e : p ≡ compared_of s
   pub said_differs : p.standing.apart ≡ true → said_by s xs ys ≡ differs_in p.standing p.standing.field
   said_differs a = on ∙ said_apart p.standing (drop p.taken xs) (drop p.taken ys) a
 
-  -- the field by the two octets there, or an end
-  abbrev field : ℕ
-  field = other_field p.standing.field (get_or xs p.taken 10) (get_or ys p.taken 10)
-
-  pub said_short : p.standing.apart ≡ false → p.taken < length xs → said_by s xs ys ≡ alone_of p.standing field (Short p.standing.lines)
+  -- the field by the octet that one of the two has there, and the end of the other
+  pub said_short : p.standing.apart ≡ false → p.taken < length xs →
+      said_by s xs ys ≡ alone_of p.standing (other_field p.standing.field (get_or xs p.taken 10) 10) (Short p.standing.lines)
   unfolding said_by
   said_short a h =
       let l : length ys ≤ p.taken = rw e (other_ended s xs ys (rw e at a) (rw e at h)) in
-      on ∙ rw (drop-cons xs p.taken 10 h, drop_of_length-le ys l, a, get_or-eq_default ys 10 l)
+      on ∙ rw (drop-cons xs p.taken 10 h, drop_of_length-le ys l, a)
 
-  pub said_long : p.standing.apart ≡ false → length xs ≤ p.taken → p.taken < length ys → said_by s xs ys ≡ alone_of p.standing field (Long p.standing.lines)
+  pub said_long : p.standing.apart ≡ false → length xs ≤ p.taken → p.taken < length ys →
+      said_by s xs ys ≡ alone_of p.standing (other_field p.standing.field 10 (get_or ys p.taken 10)) (Long p.standing.lines)
   unfolding said_by
-  said_long a h g = on ∙ rw (drop_of_length-le xs h, drop-cons ys p.taken 10 g, a, get_or-eq_default xs 10 h)
+  said_long a h g = on ∙ rw (drop_of_length-le xs h, drop-cons ys p.taken 10 g, a)
 
   pub said_right : p.standing.apart ≡ false → length xs ≤ p.taken → length ys ≤ p.taken → said_by s xs ys ≡ Right
   unfolding said_by

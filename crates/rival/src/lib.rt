@@ -1,7 +1,7 @@
 // Two streams of octets beside each other, our lines and another maker's: how far they are alike, and what is said of the two. 02, K13.
 #![tactic(auto)]
 
-ghost use Rattle.std.specs.Prelude.{◌≡◌, get_or};
+ghost use Rattle.std.specs.Prelude.{◌≡◌};
 ghost use Rattle.rival.specs.Beside.{alone_of, beside_of, compared_of, field_after, other_field, said_by, standing_at_first};
 ghost use Rattle.rival.specs.Log.{one_more};
 ghost use Rattle.rival.specs.Pieces.{settled_of};
@@ -9,7 +9,7 @@ ghost use Rattle.rival.specs.Pieces.{settled_of};
 const LF: u8 = 10;
 
 const BLANK: u8 = 32;
-// A line's fields. The number behind the last one stands for the line's form.
+// A line's fields. The number behind the last one stands for the line's form. Numbers and no enum: they are counted on from blank to blank.
 const FORM: u64 = 8;
 
 // Where a comparison stands.
@@ -21,6 +21,7 @@ pub struct Standing {
     pub field: u64,
     // An octet of that line was passed.
     pub inside: bool,
+    // Both came apart. No enum around the others: `lines` and `field` are read on both sides of it.
     pub apart: bool,
 }
 
@@ -43,6 +44,7 @@ pub struct Passed {
 }
 
 // Before the first octet of both.
+#[tactic(auto, unfolding(crate::specs::Beside::standing_at_first))]
 pub fn start() -> Standing
     ensures { result ≡ standing_at_first }
 {
@@ -55,6 +57,7 @@ pub fn start() -> Standing
 }
 
 // One more, as far as `most`.
+#[tactic(auto, using(octets::proofs::Branch::tests), unfolding(crate::specs::Log::one_more))]
 fn one_more(n: u64, most: u64) -> u64
     ensures { result ≡ one_more most n }
 {
@@ -69,29 +72,19 @@ fn next_line(lines: u64) -> u64
 }
 
 // The field in which two lines differ whose first octets that differ are `ours` and `theirs`, in that field of ours.
+#[tactic(auto, using(octets::proofs::Branch::tests), unfolding(crate::specs::Beside::other_field))]
 fn other_field(field: u64, ours: u8, theirs: u8) -> u64
     ensures { result ≡ other_field field ours theirs }
 {
-    if ours == LF {
-        if theirs == LF {
-            return FORM;
-        }
-        if theirs == BLANK {
-            return FORM;
-        }
-        return field;
-    }
-    if theirs != LF {
-        return field;
-    }
-    if ours == BLANK {
-        one_more(field, FORM)
-    } else {
-        field
+    match (ours, theirs) {
+        (LF, LF | BLANK) => FORM,
+        (BLANK, LF) => one_more(field, FORM),
+        _ => field,
     }
 }
 
 // The field behind an octet of the line.
+#[tactic(auto, using(octets::proofs::Branch::tests), unfolding(crate::specs::Beside::field_after))]
 fn field_after(field: u64, octet: u8) -> u64
     ensures { result ≡ field_after field octet }
 {
@@ -103,30 +96,28 @@ fn field_after(field: u64, octet: u8) -> u64
 }
 
 // An octet of each beside the other.
+#[tactic(auto, using(octets::proofs::Branch::tests), unfolding(crate::specs::Beside::beside_of, crate::specs::Beside::standing_at_first))]
 fn beside(s: Standing, ours: u8, theirs: u8) -> Standing
     ensures { result ≡ beside_of s ours theirs }
 {
     if ours != theirs {
         return Standing {
-            lines: s.lines,
             field: other_field(s.field, ours, theirs),
-            inside: s.inside,
             apart: true,
+            ..s
         };
     }
     if ours == LF {
         return Standing {
             lines: next_line(s.lines),
-            field: 0,
-            inside: false,
-            apart: false,
+            ..start()
         };
     }
     Standing {
-        lines: s.lines,
         field: field_after(s.field, ours),
         inside: true,
         apart: false,
+        ..s
     }
 }
 
@@ -134,91 +125,60 @@ fn beside(s: Standing, ours: u8, theirs: u8) -> Standing
 pub fn compare(ours: &[u8], theirs: &[u8], s: Standing) -> Passed
     ensures { result ≡ compared_of s ours.now theirs.now }
 {
-    let mut t = s;
-    let mut i = 0;
-    while i < ours.len() {
-        if theirs.len() <= i {
-            return Passed {
-                standing: t,
-                taken: i,
-            };
+    let mut standing = s;
+    let mut taken = 0;
+    for (x, y) in ours.iter().zip(theirs) {
+        if standing.apart {
+            break;
         }
-        if t.apart {
-            return Passed {
-                standing: t,
-                taken: i,
-            };
-        }
-        t = beside(t, ours[i], theirs[i]);
-        i += 1;
+        standing = beside(standing, *x, *y);
+        taken += 1;
     }
-    Passed {
-        standing: t,
-        taken: i,
-    }
+    Passed { standing, taken }
 }
 
 // Whether nothing that may still come changes what is said: with `none` left of ours, or some, and `done` where nothing more comes of it; the same of
-// theirs, `empty` and `over`.
+// theirs, `empty` and `over`. No struct holds two of them: each is a test of the caller's own, made where it is handed on.
+#[tactic(auto, unfolding(crate::specs::Pieces::settled_of))]
 pub fn is_settled(s: Standing, none: bool, done: bool, empty: bool, over: bool) -> bool
     ensures { result ≡ settled_of s none done empty over }
 {
-    if s.apart {
-        return true;
-    }
-    if done {
-        if over {
-            return true;
+    s.apart
+        || match (done, over) {
+            (true, true) => true,
+            (true, false) => none && !empty,
+            (false, true) => empty && !none,
+            (false, false) => false,
         }
-        if none {
-            return !empty;
-        }
-        return false;
-    }
-    if over {
-        if empty {
-            return !none;
-        }
-        return false;
-    }
-    false
-}
-
-// The octet at a place; an end is as a line feed.
-fn octet_or_end(s: &[u8], at: usize) -> u8
-    ensures { result ≡ get_or s.now at 10 }
-{
-    if at < s.len() { s[at] } else { LF }
 }
 
 // One of the two goes on alone: in a line that both began, or in a new one.
+#[tactic(auto, using(octets::proofs::Branch::tests), unfolding(crate::specs::Beside::alone_of))]
 fn alone(s: Standing, field: u64, new: Said) -> Said
     ensures { result ≡ alone_of s field new }
 {
     if s.inside {
-        return Said::Differs(next_line(s.lines), field);
+        Said::Differs(next_line(s.lines), field)
+    } else {
+        new
     }
-    new
 }
 
 // What is said where nothing more comes of either behind `ours` and `theirs`.
 pub fn ending(ours: &[u8], theirs: &[u8], s: Standing) -> Said
     ensures { result ≡ said_by s ours.now theirs.now }
 {
-    let p = compare(ours, theirs, s);
-    let t = p.standing;
-    let at = p.taken;
+    let Passed {
+        standing: t,
+        taken: at,
+    } = compare(ours, theirs, s);
     if t.apart {
         return Said::Differs(next_line(t.lines), t.field);
     }
-    let x = octet_or_end(ours, at);
-    let y = octet_or_end(theirs, at);
-    let field = other_field(t.field, x, y);
-    if ours.len() <= at {
-        if theirs.len() <= at {
-            return Said::Right;
-        }
-        return alone(t, field, Said::Long(t.lines));
+    // An end is as a line feed.
+    match (ours.get(at), theirs.get(at)) {
+        (Some(x), _) => alone(t, other_field(t.field, *x, LF), Said::Short(t.lines)),
+        (None, Some(y)) => alone(t, other_field(t.field, LF, *y), Said::Long(t.lines)),
+        (None, None) => Said::Right,
     }
-    alone(t, field, Said::Short(t.lines))
 }

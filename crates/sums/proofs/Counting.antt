@@ -13,7 +13,7 @@ use Rattle.sums.specs.Block.{placewise, both_at, join_at, nothing, both_of, sing
 use Rattle.sums.specs.Orders.{joined}
 use Rattle.sums.specs.Sums as sums
 use Rattle.sums.specs.Sums.{held}
-use Rattle.sums.specs.declared.total.Total.{Total}
+use Rattle.sums.specs.Sums.{Total}
 use Rattle.sums.proofs.Joining.{held_both, block_both, tally_joined}
 
 none_more : (k m : ℕ) → both_at k m 0 ≡ m

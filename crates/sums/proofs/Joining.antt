@@ -12,7 +12,7 @@ use Rattle.sums.specs.Block.{placewise, both_at, join_at, nothing, both_of, tall
 use Rattle.sums.specs.Orders.{Perm, Tree, part, both, parts, brought, joined}
 use Rattle.octets.specs.Pick.{pick}
 use Rattle.sums.specs.Sums.{held, zero, add_of, longer_of}
-use Rattle.sums.specs.declared.total.Total.{Total}
+use Rattle.sums.specs.Sums.{Total}
 use Rattle.sums.proofs.Placewise.{placewise_comm, placewise_assoc, placewise_map, placewise_place}
 use Rattle.sums.proofs.Totals.{held_fits, held_add, held_longer, add_comm, add_assoc, longer_comm, longer_assoc}
 

@@ -5,6 +5,5 @@ pub mod Placewise
 pub mod Joining
 pub mod Counting
 pub mod Means
-pub mod Tokens
 pub mod Reading
 pub mod Examples

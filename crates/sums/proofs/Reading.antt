@@ -1,16 +1,15 @@
 -- Laws of blocks read back: one octet more in a loop, and pieces of any size.
 -- Assumes nothing.
-use Prim.Native.Nat.{ℕ, ◌+◌, ◌≤◌, ◌<◌}
-use native.Mathlib.Numerals.{add-one}
+use Prim.Native.Nat.{ℕ}
 use mathlib.Core.Path.{◌≡◌, refl, sym, ◌∙◌}
 use mathlib.Core.List.{List, [], ◌∷◌, ◌++◌}
-use lib.ListN.{length, drop, get_or, drop_of_length-le}
-use lib.Seq.{drop-cons}
-use Rattle.sums.specs.Adding.{added_with, read_from, added_from}
+use Rattle.std.specs.List.{fold}
+use Rattle.sums.specs.Adding.{added_with, read_from, added_from, adding_with, adding_from}
+use Rattle.sums.specs.declared.adding.Adding.{Adding}
 use Rattle.sums.specs.Orders.{joined}
 use Rattle.sums.specs.Reader.{next_of}
 use Rattle.sums.specs.declared.reader.Reader.{Reader}
-use Rattle.sums.specs.declared.total.Total.{Total}
+use Rattle.sums.specs.Sums.{Total}
 
 -- However the octets come in pieces, the reader and the block are those of the whole.
 pub read_pieces_lem : (r : Reader) (xs ys : List ℕ) → read_from r (xs ++ ys) ≡ read_from (read_from r xs) ys
@@ -40,20 +39,8 @@ any_pieces b r (xs ∷ rest) =
     let more = any_pieces (added_from b r xs) (read_from r xs) rest in
     (more.0 ∙ sym (read_pieces_lem r xs (joined rest)), more.1 ∙ sym (added_pieces_lem b r xs (joined rest)))
 
--- What is left at i, and what is left at i + 1.
-module _ (b : List Total) (r : Reader) (xs : List ℕ) (i : ℕ) where
-  pub read_step : i < length xs → read_from (next_of r (get_or xs i 0)) (drop (i + 1) xs) ≡ read_from r (drop i xs)
-  unfolding read_from
-  read_step h = rw (add-one, drop-cons xs i 0 h)
-
-  pub read_end : length xs ≤ i → read_from r (drop i xs) ≡ r
-  unfolding read_from
-  read_end h = rw (drop_of_length-le xs h)
-
-  pub added_step : i < length xs → added_from (added_with b r (get_or xs i 0)) (next_of r (get_or xs i 0)) (drop (i + 1) xs) ≡ added_from b r (drop i xs)
-  unfolding added_from
-  added_step h = rw (add-one, drop-cons xs i 0 h)
-
-  pub added_end : length xs ≤ i → added_from b r (drop i xs) ≡ b
-  unfolding added_from
-  added_end h = rw (drop_of_length-le xs h)
+-- Octet by octet, from the left, is what block and reader come to.
+pub adding_fold : (a : Adding) (xs : List ℕ) → fold adding_with a xs ≡ adding_from a xs
+unfolding read_from added_from adding_with
+adding_fold a [] = refl
+adding_fold a (x ∷ xs) = adding_fold (adding_with a x) xs

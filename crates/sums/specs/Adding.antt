@@ -1,16 +1,15 @@
 -- The numbers of printed blocks added up, octet by octet.
 -- Assumes nothing.
-use Rattle.std.specs.Prelude.{ℕ, Bool, true, false, ◌&&◌, ◌||◌, List, [], ◌∷◌, eqb}
+use Rattle.std.specs.Prelude.{ℕ, Bool, true, false, ◌&&◌, ◌||◌, List, [], ◌∷◌, eqb, Option, Some, None}
 use Rattle.octets.specs.Pick.{pick}
 use Rattle.sums.specs.Block.{plus_of}
 use Rattle.sums.specs.Reader.{next_of}
+use Rattle.sums.specs.Sums.{Total}
 use Rattle.sums.specs.Token.{number_of}
+use Rattle.sums.specs.declared.adding.Adding.{Adding}
 use Rattle.sums.specs.declared.reader.Reader.{Reader}
 use Rattle.sums.specs.declared.reader.Stage.{Stage}
 use Rattle.sums.specs.declared.reader.Stage.TheVariants as stage
-use Rattle.sums.specs.declared.token.Number.{Number}
-use Rattle.sums.specs.declared.token.Number.TheVariants.{None, Of}
-use Rattle.sums.specs.declared.total.Total.{Total}
 
 -- A number that ends with an octet is added at its place.
 abbrev pub in_number : Stage → Bool
@@ -22,9 +21,9 @@ in_number stage.Fault = false
 unfoldable pub ends_number : Reader → ℕ → Bool
 ends_number r x = in_number r.stage && (eqb x 10 || eqb x 32)
 
-abbrev pub added_number : List Total → ℕ → Number → List Total
+abbrev pub added_number : List Total → ℕ → Option Total → List Total
 added_number b place None = b
-added_number b place (Of t) = plus_of b place t
+added_number b place (Some t) = plus_of b place t
 
 unfoldable pub added_with : List Total → Reader → ℕ → List Total
 added_with b r x = pick (ends_number r x) (added_number b r.place (number_of r.token)) b
@@ -37,6 +36,13 @@ read_from r (x ∷ xs) = read_from (next_of r x) xs
 unfoldable pub added_from : List Total → Reader → List ℕ → List Total
 added_from b r [] = b
 added_from b r (x ∷ xs) = added_from (added_with b r x) (next_of r x) xs
+
+-- Both at once, and an octet more of both.
+unfoldable pub adding_with : Adding → ℕ → Adding
+adding_with a x = record { block = added_with a.block a.reader x; reader = next_of a.reader x }
+
+abbrev pub adding_from : Adding → List ℕ → Adding
+adding_from a xs = record { block = added_from a.block a.reader xs; reader = read_from a.reader xs }
 
 -- Behind a line that is of no block.
 abbrev pub in_fault : Stage → Bool

@@ -2,15 +2,12 @@
 -- the total hold set, and the mean hold as a reduced fraction". A block has 23 places: 0 events; 1 to 9 refusals 1 to 9; 10 to 12 discards (no
 -- class, class filter, group rule); 13 joins; 14 leaves; 15 to 19 timeouts of kinds 1 to 5; 20 holds set; 21 the longest; 22 their total.
 -- Assumes nothing.
-use Rattle.std.specs.Prelude.{ℕ, zero, suc, ◌+◌, max, List, [], ◌∷◌, map, eqb, get_or, replicate, set}
+use Rattle.std.specs.Prelude.{ℕ, zero, suc, ◌+◌, max, List, [], ◌∷◌, map, eqb, get_or, replicate, set, Option, Some, None}
 use Rattle.sums.specs.Lowest.{reduced_of}
 use Rattle.octets.specs.Pick.{pick}
 use Rattle.sums.specs.Sums as sums
-use Rattle.sums.specs.Sums.{add_of, held, longer_of}
-use Rattle.sums.specs.declared.block.Mean.{Mean}
-use Rattle.sums.specs.declared.block.Mean.TheVariants as mean
-use Rattle.sums.specs.declared.total.Total.{Total}
-use Rattle.sums.specs.declared.total.Total.TheVariants.{Sum, Over}
+use Rattle.sums.specs.Sums.{Total, add_of, held, longer_of}
+use Rattle.sums.specs.declared.fraction.Fraction.{Fraction}
 
 -- Two lists brought together place by place, the first place being k; where one has ended, what the other has.
 unfoldable pub placewise : {A : Type 0} → (ℕ → A → A → A) → ℕ → List A → List A → List A
@@ -61,11 +58,11 @@ added_to b (x ∷ xs) = added_to (join_of b x) xs
 unfoldable pub plus_of : List Total → ℕ → Total → List Total
 plus_of b place t = set b place (join_at place (get_or b place sums.zero) t)
 
--- "the mean hold as a reduced fraction (0/1 where none was set; 0 may be set)"; "the mean follows the total hold".
-abbrev pub mean_by : Total → Total → Mean
-mean_by Over holds = mean.Over
-mean_by (Sum m) Over = mean.Over
-mean_by (Sum m) (Sum n) = mean.Exact (reduced_of m n)
+-- "the mean hold as a reduced fraction (0/1 where none was set; 0 may be set)"; "the mean follows the total hold". None is `over`.
+abbrev pub mean_by : Total → Total → Option Fraction
+mean_by None holds = None
+mean_by (Some m) None = None
+mean_by (Some m) (Some n) = Some (reduced_of m n)
 
-unfoldable pub mean_of : List Total → Mean
+unfoldable pub mean_of : List Total → Option Fraction
 mean_of b = mean_by (get_or b 22 sums.zero) (get_or b 20 sums.zero)

@@ -1,15 +1,13 @@
 -- Blocks read back from their printed form: lines `file ..` and `all` are passed over where a block may begin, and then the ten lines of a block come in
 -- their order, each with its word, a blank before each number and one LF at its end. The mean is passed over: it is worked out anew.
 -- Assumes nothing.
-use Rattle.std.specs.Prelude.{ℕ, Bool, true, false, not, ◌&&◌, List, [], ◌∷◌, eqb, length}
+use Rattle.std.specs.Prelude.{ℕ, Bool, not, ◌&&◌, List, [], ◌∷◌, eqb, length, is_some}
 use Rattle.octets.specs.Pick.{pick}
 use Rattle.sums.specs.Place.{opens, last_of_line, place_after, line_after}
 use Rattle.sums.specs.Token.{no_token, token_with, packed, is_packed, number_of}
 use Rattle.sums.specs.declared.reader.Reader.{Reader}
 use Rattle.sums.specs.declared.reader.Stage.{Stage}
 use Rattle.sums.specs.declared.reader.Stage.TheVariants as stage
-use Rattle.sums.specs.declared.token.Number.{Number}
-use Rattle.sums.specs.declared.token.Number.TheVariants.{None, Of}
 use Rattle.sums.specs.declared.token.Token.{Token}
 
 abbrev pub file_word : List ℕ
@@ -51,18 +49,14 @@ word_blank r =
 unfoldable pub word_line : Reader → Reader
 word_line r = pick (is_heading r all_word) (line_from 0 (line_after r.line)) (fault_of r)
 
-abbrev pub is_number : Number → Bool
-is_number None = false
-is_number (Of t) = true
-
 -- A number, and a blank: another comes. A number, and the line's end: it was the last.
 unfoldable pub number_blank : Reader → Reader
 number_blank r =
-    pick (is_number (number_of r.token) && not (last_of_line r.place)) (staged stage.Number (place_after r.place) r) (fault_of r)
+    pick (is_some (number_of r.token) && not (last_of_line r.place)) (staged stage.Number (place_after r.place) r) (fault_of r)
 
 unfoldable pub number_line : Reader → Reader
 number_line r =
-    pick (is_number (number_of r.token) && last_of_line r.place) (line_from (place_after r.place) (line_after r.line)) (fault_of r)
+    pick (is_some (number_of r.token) && last_of_line r.place) (line_from (place_after r.place) (line_after r.line)) (fault_of r)
 
 -- One octet more; 10 ends a line, 32 is a blank. Behind a line that is passed over a block may begin.
 abbrev pub next_by : Stage → Reader → ℕ → Reader

@@ -9,7 +9,7 @@ pub struct Fraction {
     pub bottom: u64,
 }
 
-// The greatest number that divides both, by Euclid's algorithm; the other where one is 0.
+// The greatest number that divides both, by Euclid's algorithm; the other where one is 0. Its loop counts nothing, and no iterator stands for it.
 pub fn common(a: u64, b: u64) -> u64
     ensures { result ≡ gcd_of a b }
 {

@@ -1,25 +1,17 @@
 // What stands between two blanks, octet by octet: as a word of at most eight octets, and as a number of 64 bits.
 ghost use Rattle.std.specs.Prelude.{◌≡◌};
-ghost use Rattle.sums.specs.Token.{no_token, digit_fits, word_with, seen_with, value_with, token_with, is_packed, number_of};
+ghost use Rattle.sums.specs.Token.{no_token, word_with, seen_with, value_with, token_with, is_packed, number_of};
 
 use crate::total::Total;
 
 #[derive(Clone, Copy)]
 pub struct Token {
-    // The octets, the first one highest.
+    // The octets, the first one highest: eight at most, so they need no memory of their own.
     pub word: u64,
     // How many they are; 9 where they are more than eight.
     pub seen: u8,
     // Their value in decimal, where each is a digit and 64 bits hold it.
-    pub value: u64,
-    pub fits: bool,
-}
-
-// What a token is: a number or `over`, or neither.
-#[derive(Clone, Copy)]
-pub enum Number {
-    None,
-    Of(Total),
+    pub value: Option<u64>,
 }
 
 // No octet yet.
@@ -29,87 +21,70 @@ pub fn no_token() -> Token
     Token {
         word: 0,
         seen: 0,
-        value: 0,
-        fits: true,
+        value: Some(0),
     }
 }
 
+#[tactic(auto, using(octets::proofs::Branch::tests), unfolding(crate::specs::Token::word_with))]
 fn word_with(word: u64, x: u8) -> u64
     ensures { result ≡ word_with word x }
 {
     if word < 72057594037927936 {
-        return word * 256 + x as u64;
+        word * 256 + x as u64
+    } else {
+        word
     }
-    word
 }
 
+#[tactic(auto, using(octets::proofs::Branch::tests), unfolding(crate::specs::Token::seen_with))]
 fn seen_with(seen: u8) -> u8
     ensures { result ≡ seen_with seen }
 {
-    if seen < 9 {
-        return seen + 1;
-    }
-    seen
+    if seen < 9 { seen + 1 } else { seen }
 }
 
-// Whether x is a digit, and 64 bits hold the value with it behind.
-fn digit_fits(value: u64, x: u8) -> bool
-    ensures { result ≡ digit_fits value x }
-{
-    if x < b'0' {
-        return false;
-    }
-    if b'9' < x {
-        return false;
-    }
-    value <= (18446744073709551615 - (x - 48) as u64) / 10
-}
-
-fn value_with(value: u64, x: u8) -> u64
+// The value with a digit more.
+#[tactic(auto, using(octets::proofs::Branch::tests), unfolding(crate::specs::Token::value_with, crate::specs::Token::digit_fits))]
+fn value_with(value: u64, x: u8) -> Option<u64>
     ensures { result ≡ value_with value x }
 {
-    if digit_fits(value, x) {
-        return value * 10 + (x - 48) as u64;
+    if !x.is_ascii_digit() {
+        return None;
     }
-    value
+    value.checked_mul(10)?.checked_add((x - b'0') as u64)
 }
 
 // The token with an octet more.
+#[tactic(auto, unfolding(crate::specs::Token::token_with))]
 pub fn token_with(t: Token, x: u8) -> Token
     ensures { result ≡ token_with t x }
 {
-    let fits = digit_fits(t.value, x);
     Token {
         word: word_with(t.word, x),
         seen: seen_with(t.seen),
-        value: value_with(t.value, x),
-        fits: t.fits && fits,
+        value: t.value.and_then(|n| value_with(n, x)),
     }
 }
 
 // Whether a token is the word of so many octets.
+#[tactic(auto, using(octets::proofs::Branch::tests), unfolding(crate::specs::Token::is_packed))]
 pub fn is_word(t: Token, seen: u8, word: u64) -> bool
     ensures { result ≡ is_packed t seen word }
 {
-    if t.seen != seen {
-        return false;
-    }
-    t.word == word
+    t.seen == seen && t.word == word
 }
 
-// The number that a token is.
-pub fn number_of(t: Token) -> Number
+// The number that a token is; None where it is neither a number nor `over`.
+#[tactic(auto, using(octets::proofs::Branch::tests), unfolding(crate::specs::Token::number_of))]
+pub fn number_of(t: Token) -> Option<Total>
     ensures { result ≡ number_of t }
 {
     if t.seen == 0 {
-        return Number::None;
+        return None;
     }
-    if t.fits {
-        return Number::Of(Total::Sum(t.value));
+    if t.value.is_some() {
+        return Some(t.value);
     }
     // "over"
-    if is_word(t, 4, 1870030194) {
-        return Number::Of(Total::Over);
-    }
-    Number::None
+    is_word(t, 4, 1870030194).then_some(None)
 }

@@ -1,3 +1,4 @@
+pub mod Listed
 pub mod Loops
 pub mod Lists
 pub mod LinkLaws
@@ -8,3 +9,4 @@ pub mod Ticks
 pub mod Views
 pub mod Marks
 pub mod Commons
+pub mod Found

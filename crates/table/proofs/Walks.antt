@@ -1,3 +1,2 @@
 pub mod Copied
-pub mod LentLaws
 pub mod LinkLists

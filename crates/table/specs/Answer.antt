@@ -1,10 +1,9 @@
 -- The answer to an event. 01: "A refusal returns its number with everything else zero, verdict none, table and buffer unchanged."
 -- Assumes nothing.
-use Rattle.std.specs.Prelude.{ℕ, List}
+use Rattle.std.specs.Prelude.{ℕ, List, Option, None, Some}
 use Rattle.octets.specs.Frame.{length_of, written_of}
+use Rattle.octets.specs.declared.frame.Frame.{Frame}
 use Rattle.peer.specs.declared.record.Record.{Record}
-use Rattle.peer.specs.declared.reply.Reply.{Reply}
-use Rattle.peer.specs.declared.reply.Reply.TheVariants.{Silent, Send}
 use Rattle.peer.specs.declared.turn.Turn.{Turn}
 use Rattle.table.specs.declared.rules.answer.Answer.{Answer}
 use Rattle.table.specs.declared.rules.answer.Met.{Met}
@@ -47,19 +46,19 @@ count_answer a written =
 
 -- The table stays, and nothing is said.
 unfoldable pub settled_of : List Record → Answer → Met
-settled_of t a = record { table = t; answer = a; reply = Silent }
+settled_of t a = record { table = t; answer = a; reply = None }
 
 unfoldable pub refused_of : List Record → ℕ → Met
 refused_of t n = settled_of t (refusal_answer n)
 
 -- How many octets a reply writes into a buffer of n octets, and what it leaves in a buffer.
-abbrev pub said_length : Reply → ℕ → ℕ
-said_length Silent n = 0
-said_length (Send f) n = length_of f n
+abbrev pub said_length : Option Frame → ℕ → ℕ
+said_length None n = 0
+said_length (Some f) n = length_of f n
 
-abbrev pub said_in : Reply → List ℕ → List ℕ
-said_in Silent l = l
-said_in (Send f) l = written_of f l
+abbrev pub said_in : Option Frame → List ℕ → List ℕ
+said_in None l = l
+said_in (Some f) l = written_of f l
 
 -- Table and answer once the reply is written.
 unfoldable pub stepped_of : Met → ℕ → Stepped

@@ -1,7 +1,7 @@
 -- 02, K11: primitive 12 names the links of a device: "one to four link addresses, named beforehand by a new primitive 12 for a peer in State 1 (bench
 -- kind 4, 7 + 6 × count octets: device address, count, links ..)". Its octets xs stand beside the event.
 -- Assumes nothing.
-use Rattle.std.specs.Prelude.{ℕ, ◌+◌, ◌*◌, Bool, false, not, ◌&&◌, ◌||◌, List, [], ◌∷◌, ltb, leb, eqb, length, take}
+use Rattle.std.specs.Prelude.{ℕ, ◌+◌, ◌*◌, Bool, false, not, ◌&&◌, ◌||◌, List, [], ◌∷◌, ltb, leb, eqb, length, take, Option}
 use Rattle.octets.specs.Address.{valid_of}
 use Rattle.octets.specs.Field.{field}
 use Rattle.octets.specs.Frame.{longest}
@@ -15,7 +15,6 @@ use Rattle.table.specs.Places.{on_found, is_found, addresses_of, all_of, find_of
 use Rattle.table.specs.Fit.{distinct_of, well_formed}
 use Rattle.table.specs.Refusals.{first_of, unless}
 use Rattle.table.specs.Seat.{peer_of, turn_in}
-use Rattle.table.specs.declared.rules.seat.Found.{Found}
 use Rattle.table.specs.declared.rules.answer.Met.{Met}
 
 -- "device address, count, links". (Slots behind the last link have no octets, and are 0.)
@@ -38,15 +37,15 @@ count_fits xs = leb (count_in xs) 4 && eqb (length xs) (7 + 6 * count_in xs)
 
 -- Whether an address is used by another record than the one at a place: as a device, found at dev, or as a link, found at link. A device's own
 -- links may be named again.
-unfoldable pub used_elsewhere : Found → Found → Found → Bool
+unfoldable pub used_elsewhere : Option ℕ → Option ℕ → Option ℕ → Bool
 used_elsewhere at dev link = is_found dev || on_found link false (λ j. not (on_found at false (λ i. eqb i j)))
 
 -- 3 for "an address invalid, own, .. or in use elsewhere"
-unfoldable pub link_allowed : Settings → Found → Found → Found → ℕ → Bool
+unfoldable pub link_allowed : Settings → Option ℕ → Option ℕ → Option ℕ → ℕ → Bool
 link_allowed s at dev link l = valid_of l && (not (eqb l s.own) && not (used_elsewhere at dev link))
 
 -- 3: the device's address, and each link's; "given twice", the device's own address too
-unfoldable pub may_link : Settings → List Record → List ℕ → Found → List ℕ → Bool
+unfoldable pub may_link : Settings → List Record → List ℕ → Option ℕ → List ℕ → Bool
 may_link s t ads at xs =
     count_fits xs
     && (valid_of (device_in xs)
@@ -56,7 +55,7 @@ may_link s t ads at xs =
     && all_of (λ l. link_allowed s at (find_of ads l) (find_link_of t l) l) (given_in xs)))))
 
 -- "5 away from an access point; 7 outside State 1; 6 without a place": count 0 "makes no record"
-abbrev pub link_refusals : Settings → Record → Bool → Found → Found → ℕ → List (ℕ × Bool)
+abbrev pub link_refusals : Settings → Record → Bool → Option ℕ → Option ℕ → ℕ → List (ℕ × Bool)
 link_refusals s p may at free count =
     (3, not may)
     ∷ (5, not (eqb s.role ap))

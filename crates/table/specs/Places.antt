@@ -1,21 +1,19 @@
 -- Places of the table, and the definitions over a list of records that the rules are written with.
 -- Assumes nothing.
-use Rattle.std.specs.Prelude.{ℕ, ◌+◌, Bool, true, false, ◌&&◌, ◌||◌, List, [], ◌∷◌, ◌++◌, map, eqb}
+use Rattle.std.specs.Prelude.{ℕ, ◌+◌, Bool, true, false, ◌&&◌, ◌||◌, List, [], ◌∷◌, ◌++◌, map, eqb, Option, Some, None}
 use Rattle.octets.specs.Links.{links_of}
 use Rattle.octets.specs.Pick.{pick}
 use Rattle.peer.specs.declared.record.Record.{Record}
-use Rattle.table.specs.declared.rules.seat.Found.{Found}
-use Rattle.table.specs.declared.rules.seat.Found.TheVariants.{At, Nothing}
 
 -- The place of the first element that passes a test, counted from n.
-unfoldable pub first_from : {A : Type 0} → (A → Bool) → ℕ → List A → Found
-first_from f n [] = Nothing
-first_from f n (p ∷ ps) = pick (f p) (At n) (first_from f (n + 1) ps)
+unfoldable pub first_from : {A : Type 0} → (A → Bool) → ℕ → List A → Option ℕ
+first_from f n [] = None
+first_from f n (p ∷ ps) = pick (f p) (Some n) (first_from f (n + 1) ps)
 
 -- What a place that may be found gives.
-abbrev pub on_found : {A : Type 0} → Found → A → (ℕ → A) → A
-on_found Nothing z f = z
-on_found (At i) z f = f i
+abbrev pub on_found : {A : Type 0} → Option ℕ → A → (ℕ → A) → A
+on_found None z f = z
+on_found (Some i) z f = f i
 
 -- A test of each element and what follows it; of each element; of some; how many pass a test.
 unfoldable pub all_tails : {A : Type 0} → (A → List A → Bool) → List A → Bool
@@ -38,11 +36,11 @@ abbrev pub addresses_of : List Record → List ℕ
 addresses_of t = map (λ p. p.address) t
 
 -- The lowest place with an address.
-abbrev pub find_of : List ℕ → ℕ → Found
+abbrev pub find_of : List ℕ → ℕ → Option ℕ
 find_of ads a = first_from (λ b. eqb b a) 0 ads
 
 -- Whether a place was found.
-abbrev pub is_found : Found → Bool
+abbrev pub is_found : Option ℕ → Bool
 is_found at = on_found at false (λ i. true)
 
 -- The link addresses, four slots for each place; 0 is none.
@@ -54,9 +52,9 @@ link_addresses_of (p ∷ ps) = links_of p.links ++ link_addresses_of ps
 abbrev pub has_link : ℕ → Record → Bool
 has_link a p = some_of (λ l. eqb l a) (links_of p.links)
 
-unfoldable pub find_link_of : List Record → ℕ → Found
-find_link_of t a = pick (eqb a 0) Nothing (first_from (has_link a) 0 t)
+unfoldable pub find_link_of : List Record → ℕ → Option ℕ
+find_link_of t a = pick (eqb a 0) None (first_from (has_link a) 0 t)
 
 -- 02, K11: "A frame's Address 2 is looked up among link addresses first, then device addresses."
-unfoldable pub seek_of : List Record → List ℕ → ℕ → Found
-seek_of t ads a = on_found (find_link_of t a) (find_of ads a) (λ i. At i)
+unfoldable pub seek_of : List Record → List ℕ → ℕ → Option ℕ
+seek_of t ads a = on_found (find_link_of t a) (find_of ads a) (λ i. Some i)

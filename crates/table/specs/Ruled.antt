@@ -1,7 +1,7 @@
 -- One event by the rules alone, over every table: as the step (Step.antt), but refusal 2, "settings or table not well formed", is not looked
 -- for. Where settings and table are well formed it is the step: proofs/Octets/RuledLaws.antt proves `ruled_is_step`.
 -- Assumes nothing.
-use Rattle.std.specs.Prelude.{ℕ, Bool, false, true, List, eqb, ltb, get_or, length}
+use Rattle.std.specs.Prelude.{ℕ, Bool, false, true, List, eqb, ltb, get_or, length, Option}
 use Rattle.std.proofs.lemmas.List.Edits.{sets}
 use Rattle.octets.specs.Pick.{pick}
 use Rattle.peer.specs.Record.{free_of}
@@ -19,7 +19,6 @@ use Rattle.table.specs.Receive.{heard_at}
 use Rattle.table.specs.declared.rules.answer.Answer.{Answer}
 use Rattle.table.specs.declared.rules.answer.Met.{Met}
 use Rattle.table.specs.declared.rules.answer.Stepped.{Stepped}
-use Rattle.table.specs.declared.rules.seat.Found.{Found}
 use Rattle.table.specs.declared.rules.event.Event.{Event}
 use Rattle.table.specs.declared.rules.event.Event.TheVariants as event
 
@@ -34,7 +33,7 @@ unfoldable pub ticked_in : Settings → List Record → ℕ → List ℕ → Lis
 ticked_in s t d l = pick (eqb d 0) l (sets l 0 (reports_of s d 0 t))
 
 -- Whether a place is free, as its address tells. (A change that names no links changes none but at such a place.)
-unfoldable pub new_at : List Record → Found → Bool
+unfoldable pub new_at : List Record → Option ℕ → Bool
 new_at t at = on_found at false (λ i. eqb (get_or t i free_of).address 0)
 
 -- Whether an event is a primitive: what it asks of the whole table (Others.antt) no other event asks.

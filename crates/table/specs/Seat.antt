@@ -1,6 +1,6 @@
 -- A peer's turn in the table: "A peer without a record counts as State 1. New records take the lowest free place."
 -- Assumes nothing.
-use Rattle.std.specs.Prelude.{ℕ, ◌+◌, Bool, not, ◌||◌, List, map, ltb, eqb, get_or, set}
+use Rattle.std.specs.Prelude.{ℕ, ◌+◌, Bool, not, ◌||◌, List, map, ltb, eqb, get_or, set, Option}
 use Rattle.octets.specs.Links.{no_links}
 use Rattle.octets.specs.Pick.{pick}
 use Rattle.peer.specs.Record.{fresh_of, free_of, under_way}
@@ -9,7 +9,6 @@ use Rattle.peer.specs.declared.record.Record.{Record}
 use Rattle.peer.specs.declared.turn.Turn.{Turn}
 use Rattle.table.specs.Places.{on_found}
 use Rattle.table.specs.Answer.{turn_answer}
-use Rattle.table.specs.declared.rules.seat.Found.{Found}
 use Rattle.table.specs.declared.rules.answer.Met.{Met}
 use Rattle.table.specs.declared.rules.seat.Change.{Change}
 
@@ -27,11 +26,11 @@ met_of t c =
     }
 
 -- The record of a peer, by the place where its address was found; a fresh one where it has none.
-abbrev pub peer_of : List Record → Found → ℕ → Record
+abbrev pub peer_of : List Record → Option ℕ → ℕ → Record
 peer_of t at a = on_found at (fresh_of a) (λ i. get_or t i free_of)
 
 -- "An AP gives AID = place + 1 (house)." (A place is below 32.)
-abbrev pub aid_of : Found → ℕ
+abbrev pub aid_of : Option ℕ → ℕ
 aid_of at = on_found at 0 (λ i. pick (ltb i 32) (i + 1) 0)
 
 -- The record at place i goes to what the turn says; where the turn says so, any other record in State 3 or 4 goes to State 2.
@@ -51,9 +50,9 @@ stranger_of t turn = record { table = t; answer = turn_answer turn 0; reply = tu
 unfoldable pub starts_of : Turn → Bool
 starts_of turn = not (eqb (under_way turn.peer.exchange) 0) || not (no_links turn.peer.links)
 
-unfoldable pub newcomer_of : List Record → Found → Turn → Turn → Met
+unfoldable pub newcomer_of : List Record → Option ℕ → Turn → Turn → Met
 newcomer_of t free turn full =
     pick (starts_of turn) (on_found free (stranger_of t full) (λ i. seated_of t i turn)) (stranger_of t turn)
 
-abbrev pub turn_in : List Record → Found → Found → Turn → Turn → Met
+abbrev pub turn_in : List Record → Option ℕ → Option ℕ → Turn → Turn → Met
 turn_in t at free turn full = on_found at (newcomer_of t free turn full) (λ i. seated_of t i turn)

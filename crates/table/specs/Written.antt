@@ -1,15 +1,14 @@
 -- 01, "How narrowly each call is bound": "an invented bytes-written number: it is the frame's length, or eight times the timeouts"; "Refusal
 -- numbers": "Bytes beyond those written stay as they were."
 -- Assumes nothing.
-use Rattle.std.specs.Prelude.{ℕ, ◌≤◌, ◌≡◌, Bool, not, ◌&&◌, ◌||◌, List, [], leb, eqb, length, take, drop}
+use Rattle.std.specs.Prelude.{ℕ, ◌≤◌, ◌≡◌, Bool, not, ◌&&◌, ◌||◌, List, [], leb, eqb, length, take, drop, Option, None, Some}
 use Rattle.octets.specs.Pick.{pick}
 use Rattle.octets.specs.Frame.{longest, bytes_of}
+use Rattle.octets.specs.declared.frame.Frame.{Frame}
 use Rattle.peer.specs.Query.{is_running, query_left, reaches}
 use Rattle.peer.specs.declared.query.Query.{Query}
 use Rattle.peer.specs.declared.settings.Settings.{Settings}
 use Rattle.peer.specs.declared.record.Record.{Record}
-use Rattle.peer.specs.declared.reply.Reply.{Reply}
-use Rattle.peer.specs.declared.reply.Reply.TheVariants.{Silent, Send}
 use Rattle.table.specs.Refusals.{first_of}
 use Rattle.table.specs.Receive.{received_of}
 use Rattle.table.specs.Ask.{asked_of}
@@ -19,9 +18,9 @@ use Rattle.table.specs.declared.rules.event.Event.{Event}
 use Rattle.table.specs.declared.rules.event.Event.TheVariants as event
 
 -- The frame replied, in octets.
-abbrev pub reply_bytes : Reply → List ℕ
-reply_bytes Silent = []
-reply_bytes (Send f) = bytes_of f
+abbrev pub reply_bytes : Option Frame → List ℕ
+reply_bytes None = []
+reply_bytes (Some f) = bytes_of f
 
 -- What an event writes, lent a buffer of n octets: the frame replied; of a clock step that is not refused, the reports.
 abbrev pub step_bytes : Settings → List Record → Event → List ℕ → ℕ → List ℕ

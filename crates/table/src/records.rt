@@ -2,6 +2,7 @@
 pub mod apart;
 pub mod ask;
 pub mod fit;
+pub mod held;
 pub mod lent;
 pub mod link;
 pub mod pass;

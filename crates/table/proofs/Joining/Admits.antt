@@ -47,8 +47,7 @@ use Rattle.table.specs.Seat.{newcomer_of, peer_of, seated_of, starts_of, strange
 use Rattle.table.specs.Step.{step_of}
 use Rattle.table.specs.declared.rules.answer.Met.{Met}
 use Rattle.table.specs.declared.rules.event.Event.TheVariants as event
-use Rattle.table.specs.declared.rules.seat.Found.{Found}
-use Rattle.table.specs.declared.rules.seat.Found.TheVariants.{At, Nothing}
+use Rattle.std.specs.Prelude.{Option, Some, None}
 use Rattle.table.proofs.Joining.FrameSteps.{seek_stands}
 use Rattle.table.proofs.Joining.Records.{Stands, over, own_record}
 use Rattle.table.proofs.Theorems.Well.{Well, of_well}
@@ -115,14 +114,14 @@ module _ (s : Settings) (t : List Record) (w : Well s t) (role : role_associates
   nonzero : {P : Type 0} (n : ℕ) → eqb n 0 ≡ false → n ≡ 0 → P
   nonzero n z e = clash (eq-eqb n 0 e) z
 
-  found_verdict : (at free : Found) (h : Heard) (group : Bool) → Classed class.Three h → Stands t a at → sender_in t xs ≡ (peer_of t at a).address
+  found_verdict : (at free : Option ℕ) (h : Heard) (group : Bool) → Classed class.Three h → Stands t a at → sender_in t xs ≡ (peer_of t at a).address
       → Verdict (turn_in t at free (towards_of a (hear_of s (peer_of t at a) class.Three group h)) (towards_of a (full_of s (peer_of t at a))))
   unfolding seated_of newcomer_of stranger_of starts_of towards_of fresh_of no_links
-  found_verdict (At i) free h group k st sender r =
+  found_verdict (Some i) free h group k st sender r =
       let p = get_or t i free_of in
       let own : record_with t (sender_in t xs) ≡ p = ap (λ (n : ℕ). record_with t n) sender ∙ own_record s t w i st.0 st.1 in
       (rw sender st.1, three_verdict s role p group h k ∙ rw own)
-  found_verdict Nothing free h group k st sender r =
+  found_verdict None free h group k st sender r =
       let p = fresh_of a in
       let own : record_with t (sender_in t xs) ≡ p = ap (λ (n : ℕ). record_with t n) sender ∙ rw st.0 in
       (rw sender st.1, rw (three_kept s role p group h k refl, own) (three_verdict s role p group h k))

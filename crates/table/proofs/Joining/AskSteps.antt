@@ -29,8 +29,7 @@ use Rattle.table.specs.Refusals.{unless}
 use Rattle.table.specs.Seat.{aid_of, newcomer_of, peer_of, seated_of, starts_of, stranger_of, turn_in}
 use Rattle.table.specs.declared.rules.answer.Met.{Met}
 use Rattle.table.specs.declared.rules.event.Event.TheVariants as event
-use Rattle.table.specs.declared.rules.seat.Found.{Found}
-use Rattle.table.specs.declared.rules.seat.Found.TheVariants.{At, Nothing}
+use Rattle.std.specs.Prelude.{Option, Some, None}
 use Rattle.table.proofs.Joining.AskedTurns.{ask_asks, awaiting_two}
 use Rattle.table.proofs.Joining.Lines.{Turned, or_none}
 use Rattle.table.proofs.Joining.Records.{Stands, Still, device_fits, found_inside, over, own_record, turn_moves}
@@ -90,18 +89,18 @@ module _ (s : Settings) (t : List Record) (w : Well s t) (q a c : ℕ) (d : ℕ)
   unless_law n m w' k = by_bool (eqb n 0) (λ e. rw e (k e (rw e at w'))) (λ e. rw e (refused_law n e))
 
   -- the one turn counts, whether there is a place for it or not
-  turn_seen : (at free : Found) (turn : Turn) → turn.verdict ≡ 0 → seen_in (turn_in t at free turn turn) ≡ true
+  turn_seen : (at free : Option ℕ) (turn : Turn) → turn.verdict ≡ 0 → seen_in (turn_in t at free turn turn) ≡ true
   unfolding seated_of newcomer_of stranger_of
-  turn_seen (At i) free turn v = rw v
-  turn_seen Nothing free turn v = go (starts_of turn) free
+  turn_seen (Some i) free turn v = rw v
+  turn_seen None free turn v = go (starts_of turn) free
     where
-      go : (b : Bool) (f : Found) → seen_in (pick b (on_found f (stranger_of t turn) (λ i. seated_of t i turn)) (stranger_of t turn)) ≡ true
+      go : (b : Bool) (f : Option ℕ) → seen_in (pick b (on_found f (stranger_of t turn) (λ i. seated_of t i turn)) (stranger_of t turn)) ≡ true
       go false f = rw v
-      go true Nothing = rw v
-      go true (At i) = rw v
+      go true None = rw v
+      go true (Some i) = rw v
 
   turned_law :
-      (at free : Found) (turn : Turn) → turn.verdict ≡ 0 → turn.sole ≡ false → a ≡ (peer_of t at a).address → record_with t (peer_of t at a).address ≡ peer_of t at a → Stands t a at
+      (at free : Option ℕ) (turn : Turn) → turn.verdict ≡ 0 → turn.sole ≡ false → a ≡ (peer_of t at a).address → record_with t (peer_of t at a).address ≡ peer_of t at a → Stands t a at
       → Still at (grants (peer_of t at a).exchange q c) (acknowledges (peer_of t at a).exchange q c) turn
       → find_of (addresses_of t) 0 ≡ free → turn.peer.address ≡ (peer_of t at a).address
       → Turned (peer_of t at a) (grants (peer_of t at a).exchange q c) (deauthenticates q c) (acknowledges (peer_of t at a).exchange q c) (deauthenticates q c || (disassociates q c || rejects s (peer_of t at a).exchange q c)) turn
@@ -117,7 +116,7 @@ module _ (s : Settings) (t : List Record) (w : Well s t) (q a c : ℕ) (d : ℕ)
       (rw (here, ex), rw here, rw (here, ex), rw (here, ex, or_none (rejects s p.exchange q c))))
       (λ e. let gone : eqb a d ≡ false = ap (λ (n : ℕ). eqb n d) sender ∙ e in (rw gone, rw gone, rw gone, rw (gone, alone))))
 
-  abbrev turn : Found → Turn
+  abbrev turn : Option ℕ → Turn
   turn at = towards_of (spoken_at (peer_of t at a)) (ask_of s (aid_of at) (peer_of t at a) (others_of s t) q c)
 
   asked_law : Well s (asked_at s t (addresses_of t) q a c).table → AskLaw (asked_at s t (addresses_of t) q a c)
@@ -132,30 +131,30 @@ module _ (s : Settings) (t : List Record) (w : Well s t) (q a c : ℕ) (d : ℕ)
       let peer = both (not (eqb a s.own)) _ may.1 in
       go (find_of (addresses_of t) a) refl (valid_named a peer.1) (find_leads s t w a peer.0 peer.1 (find_of (addresses_of t) a) (unfound (find_link_of t a) n.1) refl) r7.0 w'')
     where
-      go : (at : Found) → find_of (addresses_of t) a ≡ at → eqb a 0 ≡ false → Leads s t w a at → mismatch_of (peer_of t at a) (others_of s t) q ≡ false
+      go : (at : Option ℕ) → find_of (addresses_of t) a ≡ at → eqb a 0 ≡ false → Leads s t w a at → mismatch_of (peer_of t at a) (others_of s t) q ≡ false
           → Well s (turn_in t at (find_of (addresses_of t) 0) (turn at) (turn at)).table → AskLaw (turn_in t at (find_of (addresses_of t) 0) (turn at) (turn at))
-      go Nothing f z l m w' =
-          let k = ask_asks s (fresh_of a) w.settings l.2 (aid_of Nothing) (others_of s t) q c m in
-          turned_law Nothing (find_of (addresses_of t) 0) (turn Nothing) (ask_silent s (aid_of Nothing) (fresh_of a) (others_of s t) q c) (ask_alone s (aid_of Nothing) (fresh_of a) (others_of s t) q c)
-          refl (rw f) (f, z) (refl, refl, ask_alone s (aid_of Nothing) (fresh_of a) (others_of s t) q c) refl (ask_links s (fresh_of a) (aid_of Nothing) (others_of s t) q c).0
+      go None f z l m w' =
+          let k = ask_asks s (fresh_of a) w.settings l.2 (aid_of None) (others_of s t) q c m in
+          turned_law None (find_of (addresses_of t) 0) (turn None) (ask_silent s (aid_of None) (fresh_of a) (others_of s t) q c) (ask_alone s (aid_of None) (fresh_of a) (others_of s t) q c)
+          refl (rw f) (f, z) (refl, refl, ask_alone s (aid_of None) (fresh_of a) (others_of s t) q c) refl (ask_links s (fresh_of a) (aid_of None) (others_of s t) q c).0
           (record { two = k.two; three = k.three }) w'
-      go (At i) f z l m w' =
+      go (Some i) f z l m w' =
           let p = get_or t i free_of in
           let same = found_address t a i f in
           let busy : eqb p.address 0 ≡ false = rw same z in
           let inside = found_inside t a i f in
-          let k = ask_asks s p w.settings l (aid_of (At i)) (others_of s t) q c m in
-          turned_law (At i) (find_of (addresses_of t) 0) (turn (At i)) (ask_silent s (aid_of (At i)) p (others_of s t) q c) (ask_alone s (aid_of (At i)) p (others_of s t) q c)
-          (sym same) (own_record s t w i inside busy) (inside, busy) tt refl (ask_links s p (aid_of (At i)) (others_of s t) q c).0
+          let k = ask_asks s p w.settings l (aid_of (Some i)) (others_of s t) q c m in
+          turned_law (Some i) (find_of (addresses_of t) 0) (turn (Some i)) (ask_silent s (aid_of (Some i)) p (others_of s t) q c) (ask_alone s (aid_of (Some i)) p (others_of s t) q c)
+          (sym same) (own_record s t w i inside busy) (inside, busy) tt refl (ask_links s p (aid_of (Some i)) (others_of s t) q c).0
           (record { two = k.two; three = k.three }) w'
 
   acknowledged_stands : J ≡ true → over 2 t d ≡ true
   unfolding fresh_of acknowledges
   acknowledged_stands e = go (find_of (addresses_of t) d) refl (and_right E _ e)
     where
-      go : (at : Found) → find_of (addresses_of t) d ≡ at → acknowledges (peer_of t at d).exchange q c ≡ true → leb 2 (peer_of t at d).state ≡ true
-      go Nothing f e = wrong e
-      go (At i) f e =
+      go : (at : Option ℕ) → find_of (addresses_of t) d ≡ at → acknowledges (peer_of t at d).exchange q c ≡ true → leb 2 (peer_of t at d).state ≡ true
+      go None f e = wrong e
+      go (Some i) f e =
           let p = get_or t i free_of in
           awaiting_two p.exchange s.role p.state p.left (device_fits s t w d i some f).suits (not-true _ (and_left (not (eqb (awaiting_of p.exchange) 0)) _ e))
 

@@ -30,8 +30,7 @@ use Rattle.table.specs.Seat.{peer_of, turn_in}
 use Rattle.table.specs.Written.{times_out}
 use Rattle.table.specs.declared.rules.answer.Met.{Met}
 use Rattle.table.specs.declared.rules.event.Event.TheVariants as event
-use Rattle.table.specs.declared.rules.seat.Found.{Found}
-use Rattle.table.specs.declared.rules.seat.Found.TheVariants.{At, Nothing}
+use Rattle.std.specs.Prelude.{Option, Some, None}
 use Rattle.table.proofs.Joining.Lines.{gone, kept, remains, or_none}
 use Rattle.table.proofs.Joining.Records.{Stands, Still, device_fits, found_inside, found_not, over, turn_moves}
 use Rattle.table.proofs.Joining.Steps.{Law, Steps, law_still, steps_of}
@@ -60,7 +59,7 @@ module _ (s : Settings) (t : List Record) (w : Well s t) (d : ℕ) (some : eqb d
     at_u i h = get_inside (after_of s tu) t i free_of free_of h
 
     -- a device that is still there was there, at the same place
-    was : (i : ℕ) → find_of (addresses_of u) d ≡ At i → (i < length t) × (find_of (addresses_of t) d ≡ At i)
+    was : (i : ℕ) → find_of (addresses_of u) d ≡ Some i → (i < length t) × (find_of (addresses_of t) d ≡ Some i)
     was i e =
         let h : i < length t = rw (length-map t (after_of s tu)) at (found_inside u d i e) in
         let here : (after i).address ≡ d = ap (λ (r : Record). r.address) (sym (at_u i h)) ∙ found_address u d i e in
@@ -75,20 +74,20 @@ module _ (s : Settings) (t : List Record) (w : Well s t) (d : ℕ) (some : eqb d
     unfolding fresh_of
     clocked n want law low one = go (find_of (addresses_of u) d) refl
       where
-        lost : (f : Found) → find_of (addresses_of t) d ≡ f → find_of (addresses_of u) d ≡ Nothing → want (peer_of t f d) ≡ false
-        lost Nothing e g = low (fresh_of d) refl
-        lost (At i) e g = by_bool (leb 2 (get_or t i free_of).state)
+        lost : (f : Option ℕ) → find_of (addresses_of t) d ≡ f → find_of (addresses_of u) d ≡ None → want (peer_of t f d) ≡ false
+        lost None e g = low (fresh_of d) refl
+        lost (Some i) e g = by_bool (leb 2 (get_or t i free_of).state)
             (λ high.
             let h = found_inside t d i e in
             let stays : (after i).address ≡ d = tick_same s (get_or t i free_of) (device_fits s t w d i some e) tu high ∙ found_address t d i e in
             let here : (get_or u i free_of).address ≡ d = ap (λ (r : Record). r.address) (at_u i h) ∙ stays in
-            let found : find_of (addresses_of u) d ≡ At i = ap (λ (n : ℕ). find_of (addresses_of u) n) (sym here) ∙ find_at u i w'.distinct (rw (length-map t (after_of s tu)) h) (rw here some) in
+            let found : find_of (addresses_of u) d ≡ Some i = ap (λ (n : ℕ). find_of (addresses_of u) n) (sym here) ∙ find_at u i w'.distinct (rw (length-map t (after_of s tu)) h) (rw here some) in
             found_not (sym g ∙ found))
             (λ high. low (get_or t i free_of) high)
 
-        go : (f : Found) → find_of (addresses_of u) d ≡ f → leb n (peer_of u f d).state ≡ want (record_with t d)
-        go Nothing e = one ∙ sym (lost (find_of (addresses_of t) d) refl e)
-        go (At i) e =
+        go : (f : Option ℕ) → find_of (addresses_of u) d ≡ f → leb n (peer_of u f d).state ≡ want (record_with t d)
+        go None e = one ∙ sym (lost (find_of (addresses_of t) d) refl e)
+        go (Some i) e =
             let k = was i e in
             rw (at_u i k.0, k.1) (law (get_or t i free_of) (device_fits s t w d i some k.1))
 
@@ -140,7 +139,7 @@ module _ (s : Settings) (t : List Record) (w : Well s t) (d : ℕ) (some : eqb d
         unparted true b = sym (kept b)
         unparted false b = sym (kept b)
 
-        turned : (at free : Found) → Stands t (device_in xs) at → Still at false false (linking_of s (peer_of t at (device_in xs)) (links_in xs)) → find_of (addresses_of t) 0 ≡ free
+        turned : (at free : Option ℕ) → Stands t (device_in xs) at → Still at false false (linking_of s (peer_of t at (device_in xs)) (links_in xs)) → find_of (addresses_of t) 0 ≡ free
             → Well s (turn_in t at free (linking_of s (peer_of t at (device_in xs)) (links_in xs)) (linking_of s (peer_of t at (device_in xs)) (links_in xs))).table
             → Same (turn_in t at free (linking_of s (peer_of t at (device_in xs)) (links_in xs)) (linking_of s (peer_of t at (device_in xs)) (links_in xs)))
         turned at free st still f w' =
@@ -148,11 +147,11 @@ module _ (s : Settings) (t : List Record) (w : Well s t) (d : ℕ) (some : eqb d
             let k = turn_moves s t w (device_in xs) at free (linking_of s p (links_in xs)) (linking_of s p (links_in xs)) false false false false st still f refl (remains (linking_of s p (links_in xs)) refl) w' d some in
             (k.two ∙ unmoved (eqb p.address d) (over 2 t d), k.three ∙ unparted (eqb p.address d) (over 3 t d))
 
-        go : (at : Found) → find_of (addresses_of t) (device_in xs) ≡ at → eqb (device_in xs) 0 ≡ false
+        go : (at : Option ℕ) → find_of (addresses_of t) (device_in xs) ≡ at → eqb (device_in xs) 0 ≡ false
             → Well s (turn_in t at (find_of (addresses_of t) 0) (linking_of s (peer_of t at (device_in xs)) (links_in xs)) (linking_of s (peer_of t at (device_in xs)) (links_in xs))).table
             → Same (turn_in t at (find_of (addresses_of t) 0) (linking_of s (peer_of t at (device_in xs)) (links_in xs)) (linking_of s (peer_of t at (device_in xs)) (links_in xs)))
-        go Nothing f z w' = turned Nothing (find_of (addresses_of t) 0) (f, z) (refl, refl, refl) refl w'
-        go (At i) f z w' = turned (At i) (find_of (addresses_of t) 0) (found_inside t (device_in xs) i f, rw (found_address t (device_in xs) i f) z) tt refl w'
+        go None f z w' = turned None (find_of (addresses_of t) 0) (f, z) (refl, refl, refl) refl w'
+        go (Some i) f z w' = turned (Some i) (find_of (addresses_of t) 0) (found_inside t (device_in xs) i f, rw (found_address t (device_in xs) i f) z) tt refl w'
 
     pub link_steps : (n : ℕ) → Well s (linked_of s t xs n).table → Steps s d (record { table = t; event = event.Links; octets = xs; room = n })
     unfolding stepped_of linked_of

@@ -39,8 +39,8 @@ use Rattle.table.specs.Receive.{heard_at, heard_from, received_of}
 use Rattle.table.specs.Seat.{newcomer_of, peer_of, seated_of, turn_in}
 use Rattle.table.specs.declared.rules.answer.Met.{Met}
 use Rattle.table.specs.declared.rules.event.Event.TheVariants as event
-use Rattle.table.specs.declared.rules.seat.Found.{Found}
-use Rattle.table.specs.declared.rules.seat.Found.TheVariants.{At, Nothing}
+use Rattle.std.specs.Prelude.{Option}
+use Rattle.std.specs.declared.option.Option.TheVariants as option
 use Rattle.table.proofs.Joining.HeardTurns.{Hears, accepted_two, hear_hears}
 use Rattle.table.proofs.Joining.Lines.{Turned, gone, heard_associating, or_none}
 use Rattle.table.proofs.Joining.Records.{Stands, Still, device_fits, found_inside, over, own_record, turn_moves}
@@ -85,19 +85,19 @@ accepted_none (heard.QueryResponse identifier) = refl
 
 -- where a frame's Address 2 leads: the sender is the device whose record it is
 pub seek_stands :
-    (s : Settings) (t : List Record) → Well s t → (a : ℕ) → eqb a 0 ≡ false → (at : Found) → seek_of t (addresses_of t) a ≡ at
+    (s : Settings) (t : List Record) → Well s t → (a : ℕ) → eqb a 0 ≡ false → (at : Option ℕ) → seek_of t (addresses_of t) a ≡ at
     → Stands t a at × (device_of t a ≡ (peer_of t at a).address)
 unfolding seek_of fresh_of
 seek_stands s t w a z at e = go (find_link_of t a) refl at e
   where
-    device : (at : Found) → find_of (addresses_of t) a ≡ at → Stands t a at × (a ≡ (peer_of t at a).address)
-    device Nothing q = ((q, z), refl)
-    device (At i) q = let same = found_address t a i q in ((found_inside t a i q, rw same z), sym same)
+    device : (at : Option ℕ) → find_of (addresses_of t) a ≡ at → Stands t a at × (a ≡ (peer_of t at a).address)
+    device option.None q = ((q, z), refl)
+    device (option.Some i) q = let same = found_address t a i q in ((found_inside t a i q, rw same z), sym same)
 
-    go : (l : Found) → find_link_of t a ≡ l → (at : Found) → on_found l (find_of (addresses_of t) a) (λ i. At i) ≡ at
+    go : (l : Option ℕ) → find_link_of t a ≡ l → (at : Option ℕ) → on_found l (find_of (addresses_of t) a) (λ i. option.Some i) ≡ at
         → Stands t a at × (on_found l a (λ i. (get_or t i free_of).address) ≡ (peer_of t at a).address)
-    go Nothing l at q = device at q
-    go (At i) l at q = rw (← q) ((link_inside t a i l, valid_named _ (linked_fits s t w a i l).valid), refl)
+    go option.None l at q = device at q
+    go (option.Some i) l at q = rw (← q) ((link_inside t a i l, valid_named _ (linked_fits s t w a i l).valid), refl)
 
 module _ (s : Settings) (t : List Record) (w : Well s t) (xs : List ℕ) (d : ℕ) (some : eqb d 0 ≡ false) where
   abbrev h : Heard
@@ -125,7 +125,7 @@ module _ (s : Settings) (t : List Record) (w : Well s t) (xs : List ℕ) (d : �
   FrameLaw m = Law (seen_in m) t m.table d G X J Y
 
   -- a peer's turn, which counts as b says
-  module _ (at : Found) (own : record_with t (peer_of t at (field 6 10 xs)).address ≡ peer_of t at (field 6 10 xs)) (sender : sender_in t xs ≡ (peer_of t at (field 6 10 xs)).address) where
+  module _ (at : Option ℕ) (own : record_with t (peer_of t at (field 6 10 xs)).address ≡ peer_of t at (field 6 10 xs)) (sender : sender_in t xs ≡ (peer_of t at (field 6 10 xs)).address) where
     abbrev p : Record
     p = peer_of t at (field 6 10 xs)
 
@@ -133,7 +133,7 @@ module _ (s : Settings) (t : List Record) (w : Well s t) (xs : List ℕ) (d : �
     exchange_own e = ap (λ (r : Record). r.exchange) (ap (λ (n : ℕ). record_with t n) (sym (eqb-true p.address d e)) ∙ own)
 
     turned_law :
-        (free : Found) (turn full : Turn) (b : Bool) → Stands t (field 6 10 xs) at
+        (free : Option ℕ) (turn full : Turn) (b : Bool) → Stands t (field 6 10 xs) at
         → Still at (b && granted_by p.exchange h) (b && accepted_by p.exchange h) turn
         → find_of (addresses_of t) 0 ≡ free → turn.peer.address ≡ p.address
         → Turned p (b && granted_by p.exchange h) (b && says_deauthentication h) (b && accepted_by p.exchange h) (b && (says_deauthentication h || (says_disassociation h || rejected_by p.exchange h))) turn
@@ -153,14 +153,14 @@ module _ (s : Settings) (t : List Record) (w : Well s t) (xs : List ℕ) (d : �
 
   -- of a peer with a record, and of one without
   found_law :
-      (at free : Found) (turn full : Turn) → Hears (peer_of t at a) h turn → sender_in t xs ≡ (peer_of t at a).address → Stands t a at
+      (at free : Option ℕ) (turn full : Turn) → Hears (peer_of t at a) h turn → sender_in t xs ≡ (peer_of t at a).address → Stands t a at
       → find_of (addresses_of t) 0 ≡ free → turn.peer.address ≡ (peer_of t at a).address → Well s (turn_in t at free turn full).table
       → FrameLaw (turn_in t at free turn full)
   unfolding seated_of fresh_of
-  found_law (At i) free turn full k sender st f same w' =
-      turned_law (At i) (own_record s t w i st.0 st.1) sender free turn full (not (eqb turn.verdict 2)) st tt f same k.turned k.parts w'
-  found_law Nothing free turn full k sender st f same w' =
-      turned_law Nothing (rw st.0) sender free turn full b st (rw (none, ← gone b), rw (no, ← gone b), alone) f same
+  found_law (option.Some i) free turn full k sender st f same w' =
+      turned_law (option.Some i) (own_record s t w i st.0 st.1) sender free turn full (not (eqb turn.verdict 2)) st tt f same k.turned k.parts w'
+  found_law option.None free turn full k sender st f same w' =
+      turned_law option.None (rw st.0) sender free turn full b st (rw (none, ← gone b), rw (no, ← gone b), alone) f same
       (record { two = rw (none, ← gone b) low_two; three = rw (no, ← gone b) low_three }) (rw (no, ← gone b) alone) w'
     where
       b : Bool
@@ -221,9 +221,9 @@ module _ (s : Settings) (t : List Record) (w : Well s t) (xs : List ℕ) (d : �
   unfolding fresh_of
   accepted_stands e = go (find_of (addresses_of t) d) refl (and_right E _ e)
     where
-      go : (at : Found) → find_of (addresses_of t) d ≡ at → accepted_by (peer_of t at d).exchange h ≡ true → leb 2 (peer_of t at d).state ≡ true
-      go Nothing f e = clash e (accepted_none h)
-      go (At i) f e = accepted_two s (get_or t i free_of) (device_fits s t w d i some f) h (heard_associating xs) e
+      go : (at : Option ℕ) → find_of (addresses_of t) d ≡ at → accepted_by (peer_of t at d).exchange h ≡ true → leb 2 (peer_of t at d).state ≡ true
+      go option.None f e = clash e (accepted_none h)
+      go (option.Some i) f e = accepted_two s (get_or t i free_of) (device_fits s t w d i some f) h (heard_associating xs) e
 
   pub frame_steps : (n : ℕ) → Well s (received_of s t xs n).table → Steps s d (record { table = t; event = event.Frame; octets = xs; room = n })
   unfolding counts stepped_of received_of refused_of settled_of read_of

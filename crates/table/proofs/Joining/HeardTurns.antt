@@ -1,6 +1,7 @@
 -- What a frame makes of one peer, for K9: where its turn leaves the peer in State 2 or above, in State 3 or above, and whether others leave State 3
 -- and 4, in the words of specs/Joined.antt.
 -- Assumes nothing.
+use Rattle.std.specs.Prelude.{Option}
 use Prim.Native.Nat.{ℕ, ◌≤◌, ◌<◌}
 use mathlib.Core.Path.{◌≡◌, refl, sym}
 use mathlib.Core.Bool.{Bool, true, false, not, ◌&&◌, ◌||◌}
@@ -9,7 +10,6 @@ use lib.Dec.{eqb, leb, ltb}
 use borrow.Author.Tests.{eqb-true, ltb-true, ltb-false, le-leb, lt-leb, eqb-false}
 use Rattle.octets.proofs.Branch.{and_left, by_bool, pick_both, pick_by}
 use Rattle.octets.specs.declared.class.FrameClass.{FrameClass}
-use Rattle.octets.specs.declared.element.Comeback.{Comeback}
 use Rattle.octets.specs.declared.heard.Heard.{Heard}
 use Rattle.octets.specs.declared.heard.Heard.TheVariants as heard
 use Rattle.octets.specs.declared.heard.Kind.{Kind}
@@ -100,7 +100,7 @@ module _ (s : Settings) (p : Record) (f : Fits s p) where
       h : Heard
       h = heard.Authentication algorithm transaction status
 
-  response_hears : (k : Kind) (status aid : ℕ) (c : Comeback) → is_associating k ≡ true → Hears p (heard.Response k status aid c) (response_heard s p k status aid c)
+  response_hears : (k : Kind) (status aid : ℕ) (c : Option ℕ) → is_associating k ≡ true → Hears p (heard.Response k status aid c) (response_heard s p k status aid c)
   unfolding still_of replied_of turn_of ended_of changed_of response_heard accepted_of rejected_of sole_of
   response_hears k status aid c assoc =
       pick_by (Hears p h) (is_sent k p.exchange)

@@ -23,8 +23,7 @@ use Rattle.table.specs.Joined.{record_with}
 use Rattle.table.specs.Order.{address_of}
 use Rattle.table.specs.Places.{addresses_of, find_of, first_from, on_found}
 use Rattle.table.specs.Seat.{newcomer_of, peer_of, seated_of, starts_of, stored_in, stranger_of, turn_in}
-use Rattle.table.specs.declared.rules.seat.Found.{Found}
-use Rattle.table.specs.declared.rules.seat.Found.TheVariants.{At, Nothing}
+use Rattle.std.specs.Prelude.{Option, Some, None}
 use Rattle.table.proofs.Joining.Lines.{Turned, gone, kept}
 use Rattle.table.proofs.Order.OwnRecord.{find_at}
 use Rattle.table.proofs.Passes.Lists.{get_map, map_same, map_set, swap}
@@ -36,17 +35,17 @@ over n t d = leb n (record_with t d).state
 
 -- ---- places
 
-pub found_not : {P : Type 0} {i : ℕ} → Nothing ≡ At i → P
+pub found_not : {P : Type 0} {i : ℕ} → None ≡ Some i → P
 found_not e = let z : ◌≡◌ {A = ℕ} 0 1 = cc in absurd (omega arith)
 
-pub first_inside : {A : Type 0} (f : A → Bool) (l : List A) (n i : ℕ) → first_from f n l ≡ At i → i < n + length l
+pub first_inside : {A : Type 0} (f : A → Bool) (l : List A) (n i : ℕ) → first_from f n l ≡ Some i → i < n + length l
 unfolding first_from
 first_inside f [] n i e = found_not e
 first_inside f (p ∷ ps) n i e = by_bool (f p)
-    (λ b. let q : At n ≡ At i = rw b at e in let z : n ≡ i = cc in omega arith)
+    (λ b. let q : Some n ≡ Some i = rw b at e in let z : n ≡ i = cc in omega arith)
     (λ b. let l = first_inside f ps (n + 1) i (rw b at e) in omega arith)
 
-pub found_inside : (t : List Record) (a i : ℕ) → find_of (addresses_of t) a ≡ At i → i < length t
+pub found_inside : (t : List Record) (a i : ℕ) → find_of (addresses_of t) a ≡ Some i → i < length t
 found_inside t a i e =
     let l : i < 0 + length (addresses_of t) = first_inside (λ (b : ℕ). eqb b a) (addresses_of t) 0 i e in
     let k : i < 0 + length t = rw (length-map t address_of) at l in
@@ -66,7 +65,7 @@ stored_addresses t true i q = map_set address_of (map parted_of t) i q ∙ rw (m
 stored_addresses t false i q = map_set address_of t i q
 
 -- a device's record is not free
-pub device_fits : (s : Settings) (t : List Record) → Well s t → (d i : ℕ) → eqb d 0 ≡ false → find_of (addresses_of t) d ≡ At i → Fits s (get_or t i free_of)
+pub device_fits : (s : Settings) (t : List Record) → Well s t → (d i : ℕ) → eqb d 0 ≡ false → find_of (addresses_of t) d ≡ Some i → Fits s (get_or t i free_of)
 unfolding place_fits is_free
 device_fits s t w d i z e =
     let busy : eqb (get_or t i free_of).address 0 ≡ false = rw (found_address t d i e) z in
@@ -95,14 +94,14 @@ stored_other t sole i q d e g =
     ap (λ (l : List ℕ). find_of l d) (stored_addresses t sole i q) ∙ first_set (addresses_of t) 0 i q.address d e (rw (get_map address_of t i free_of) g) in
     rw same (go (find_of (addresses_of t) d) refl sole)
   where
-    apart : (j : ℕ) → find_of (addresses_of t) d ≡ At j → j ≡ i → ⊥
+    apart : (j : ℕ) → find_of (addresses_of t) d ≡ Some j → j ≡ i → ⊥
     apart j h z = clash (eq-eqb _ d (found_address t d j h)) (rw z g)
 
-    go : (f : Found) → find_of (addresses_of t) d ≡ f → (b : Bool) → peer_of (stored_in t b i q) f d ≡ pick b (parted_of (peer_of t f d)) (peer_of t f d)
-    go Nothing h true = refl
-    go Nothing h false = refl
-    go (At j) h true = get_or-set_other (map parted_of t) i j q free_of (apart j h) ∙ get_map parted_of t j free_of
-    go (At j) h false = get_or-set_other t i j q free_of (apart j h)
+    go : (f : Option ℕ) → find_of (addresses_of t) d ≡ f → (b : Bool) → peer_of (stored_in t b i q) f d ≡ pick b (parted_of (peer_of t f d)) (peer_of t f d)
+    go None h true = refl
+    go None h false = refl
+    go (Some j) h true = get_or-set_other (map parted_of t) i j q free_of (apart j h) ∙ get_map parted_of t j free_of
+    go (Some j) h false = get_or-set_other t i j q free_of (apart j h)
 
 -- ---- over the lines of State 2 and 3
 
@@ -153,24 +152,24 @@ module _ (s : Settings) (t : List Record) (p : Record) (own : record_with t p.ad
       (λ e. record { two = rw e (kept (over 2 t d)); three = rw (e, o) (kept (over 3 t d)) })
 
 -- where the peer of a turn is: at a place, or nowhere
-abbrev pub Stands : List Record → ℕ → Found → Type 0
-Stands t a Nothing = (find_of (addresses_of t) a ≡ Nothing) × (eqb a 0 ≡ false)
-Stands t a (At i) = (i < length t) × (eqb (get_or t i free_of).address 0 ≡ false)
+abbrev pub Stands : List Record → ℕ → Option ℕ → Type 0
+Stands t a None = (find_of (addresses_of t) a ≡ None) × (eqb a 0 ≡ false)
+Stands t a (Some i) = (i < length t) × (eqb (get_or t i free_of).address 0 ≡ false)
 
 -- one without a record is not raised
-abbrev pub Still : Found → Bool → Bool → Turn → Type 0
-Still Nothing g j turn = (g ≡ false) × (j ≡ false) × (turn.sole ≡ false)
-Still (At i) g j turn = Unit
+abbrev pub Still : Option ℕ → Bool → Bool → Turn → Type 0
+Still None g j turn = (g ≡ false) × (j ≡ false) × (turn.sole ≡ false)
+Still (Some i) g j turn = Unit
 
 pub turn_moves :
-    (s : Settings) (t : List Record) → Well s t → (a : ℕ) (at free : Found) (turn full : Turn) (g x j y : Bool) → Stands t a at → Still at g j turn
+    (s : Settings) (t : List Record) → Well s t → (a : ℕ) (at free : Option ℕ) (turn full : Turn) (g x j y : Bool) → Stands t a at → Still at g j turn
     → find_of (addresses_of t) 0 ≡ free → turn.peer.address ≡ (peer_of t at a).address → Turned (peer_of t at a) g x j y turn
     → Well s (turn_in t at free turn full).table → (d : ℕ) → eqb d 0 ≡ false
     → Moves t (turn_in t at free turn full).table (peer_of t at a).address d g x j y turn.sole
 unfolding seated_of newcomer_of stranger_of fresh_of
-turn_moves s t w a (At i) free turn full g x j y st calm f same k w' d z =
+turn_moves s t w a (Some i) free turn full g x j y st calm f same k w' d z =
     seated_moves s t (get_or t i free_of) (own_record s t w i st.0 st.1) st.1 turn same g x j y k i st.0 w' d (λ e. e)
-turn_moves s t w a Nothing free turn full g x j y st calm f same k w' d z = go (starts_of turn) free f w'
+turn_moves s t w a None free turn full g x j y st calm f same k w' d z = go (starts_of turn) free f w'
   where
     own : record_with t a ≡ fresh_of a
     own = rw st.0
@@ -178,10 +177,10 @@ turn_moves s t w a Nothing free turn full g x j y st calm f same k w' d z = go (
     stays : Moves t t a d g x j y turn.sole
     stays = stays_moves s t (fresh_of a) own st.1 turn same g x j y k refl calm.0 calm.1 calm.2 d
 
-    go : (b : Bool) (f : Found) → find_of (addresses_of t) 0 ≡ f → Well s (pick b (on_found f (stranger_of t full) (λ i. seated_of t i turn)) (stranger_of t turn)).table
+    go : (b : Bool) (f : Option ℕ) → find_of (addresses_of t) 0 ≡ f → Well s (pick b (on_found f (stranger_of t full) (λ i. seated_of t i turn)) (stranger_of t turn)).table
         → Moves t (pick b (on_found f (stranger_of t full) (λ i. seated_of t i turn)) (stranger_of t turn)).table a d g x j y turn.sole
     go false f e w' = stays
-    go true Nothing e w' = stays
-    go true (At i) e w' =
+    go true None e w' = stays
+    go true (Some i) e w' =
         seated_moves s t (fresh_of a) own st.1 turn same g x j y k i (found_inside t 0 i e) w' d
         (λ n. rw (found_address t 0 i e) (swap d 0 z))

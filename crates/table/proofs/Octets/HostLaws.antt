@@ -35,8 +35,7 @@ use Rattle.table.specs.Seat.{met_of, turn_in}
 use Rattle.table.specs.Step.{step_of, step_in}
 use Rattle.table.specs.declared.rules.answer.Answer.{Answer}
 use Rattle.table.specs.declared.rules.answer.Met.{Met}
-use Rattle.table.specs.declared.rules.seat.Found.{Found}
-use Rattle.table.specs.declared.rules.seat.Found.TheVariants.{At, Nothing}
+use Rattle.std.specs.Prelude.{Option, Some, None}
 use Rattle.table.specs.declared.rules.seat.Change.{Change}
 use Rattle.table.specs.declared.rules.event.Event.{Event}
 use Rattle.table.specs.declared.rules.event.Event.TheVariants as event
@@ -99,7 +98,7 @@ module _ (xs : List ℕ) (s : Settings) (e : Event) (fs l : List ℕ) where
   acts i c m em es ei = rw (i, es, ei, ← em) (refl, refl, refl)
 
 -- Whether links may be named: by what is asked of the octets and where the device is a link, then link by link.
-module _ (s : Settings) (t : List Record) (ads : List ℕ) (at : Found) (fs : List ℕ) where
+module _ (s : Settings) (t : List Record) (ads : List ℕ) (at : Option ℕ) (fs : List ℕ) where
   abbrev each : Bool
   each = all_of (λ l. link_allowed s at (find_of ads l) (find_link_of t l) l) (given_in fs)
 
@@ -128,21 +127,21 @@ module _ (s : Settings) (t : List Record) (ads : List ℕ) (at : Found) (fs : Li
   named_few h = leb-true (count_in fs) 4 (and_left (leb (count_in fs) 4) _ (and_left (count_fits fs) _ h))
 
 -- Which place is free is asked only for a peer without a record.
-abbrev vacant : Found → Found → Found
-vacant at f = on_found at f (λ i. Nothing)
+abbrev vacant : Option ℕ → Option ℕ → Option ℕ
+vacant at f = on_found at f (λ i. None)
 
-pub vacant_turn : (t : List Record) (at f : Found) (turn full : Turn) → turn_in t at (vacant at f) turn full ≡ turn_in t at f turn full
-vacant_turn t Nothing f turn full = refl
-vacant_turn t (At i) f turn full = refl
+pub vacant_turn : (t : List Record) (at f : Option ℕ) (turn full : Turn) → turn_in t at (vacant at f) turn full ≡ turn_in t at f turn full
+vacant_turn t None f turn full = refl
+vacant_turn t (Some i) f turn full = refl
 
-pub vacant_refusal : (s : Settings) (p : Record) (o : Others) (at f link : Found) (q a c : ℕ) → first_of (refusals_at s p o at (vacant at f) link q a c) ≡ first_of (refusals_at s p o at f link q a c)
+pub vacant_refusal : (s : Settings) (p : Record) (o : Others) (at f link : Option ℕ) (q a c : ℕ) → first_of (refusals_at s p o at (vacant at f) link q a c) ≡ first_of (refusals_at s p o at f link q a c)
 unfolding no_place
-vacant_refusal s p o Nothing f link q a c = refl
-vacant_refusal s p o (At i) f link q a c = refl
+vacant_refusal s p o None f link q a c = refl
+vacant_refusal s p o (Some i) f link q a c = refl
 
-pub vacant_links : (s : Settings) (p : Record) (may : Bool) (at f : Found) (count : ℕ) → first_of (link_refusals s p may at (vacant at f) count) ≡ first_of (link_refusals s p may at f count)
-vacant_links s p may Nothing f count = refl
-vacant_links s p may (At i) f count = refl
+pub vacant_links : (s : Settings) (p : Record) (may : Bool) (at f : Option ℕ) (count : ℕ) → first_of (link_refusals s p may at (vacant at f) count) ≡ first_of (link_refusals s p may at f count)
+vacant_links s p may None f count = refl
+vacant_links s p may (Some i) f count = refl
 
 pub rows_table : (s : Settings) (xs : List ℕ) → length xs ≡ 1536 → (numbered_at 32 0 xs && well_formed s (records_of xs)) ≡ true → is_table xs ≡ true
 unfolding is_table

@@ -36,8 +36,7 @@ use Rattle.table.specs.Order.{Coming, frame, primitive, Handed, read_peer, comin
 use Rattle.table.specs.Places.{addresses_of, find_link_of, find_of, first_from, is_found, on_found, seek_of, some_of}
 use Rattle.table.specs.declared.rules.read.Reading.{Reading}
 use Rattle.table.specs.declared.rules.read.Reading.TheVariants.{Refused, Discarded, Admitted, From}
-use Rattle.table.specs.declared.rules.seat.Found.{Found}
-use Rattle.table.specs.declared.rules.seat.Found.TheVariants.{At, Nothing}
+use Rattle.std.specs.Prelude.{Option as Place, Some, None}
 use Rattle.table.proofs.Order.OwnRecord.{find_at}
 use Rattle.table.proofs.Passes.LinkLaws.{link_inside, unfound}
 use Rattle.table.proofs.Passes.Lists.{get_map}
@@ -132,9 +131,9 @@ module _ (t u : List Record) (e : map names u ≡ map names t) where
   pub device_same : (a : ℕ) → device_of u a ≡ device_of t a
   device_same a = rw (link_same a) (go (find_link_of t a))
     where
-      go : (f : Found) → on_found f a (λ i. (get_or u i free_of).address) ≡ on_found f a (λ i. (get_or t i free_of).address)
-      go Nothing = refl
-      go (At i) = ap (λ (n : ℕ × Links). n.0) (sym (get_map names u i free_of) ∙ ap (λ (l : List (ℕ × Links)). get_or l i (names free_of)) e ∙ get_map names t i free_of)
+      go : (f : Place ℕ) → on_found f a (λ i. (get_or u i free_of).address) ≡ on_found f a (λ i. (get_or t i free_of).address)
+      go None = refl
+      go (Some i) = ap (λ (n : ℕ × Links). n.0) (sym (get_map names u i free_of) ∙ ap (λ (l : List (ℕ × Links)). get_or l i (names free_of)) e ∙ get_map names t i free_of)
 
   pub named_same : (s : Settings) (h : Handed) → peer_named s u h ≡ peer_named s t h
   unfolding peer_named
@@ -152,16 +151,16 @@ module _ (s : Settings) (t : List Record) where
   -- a device has an address, and is found by it, or by its link, at its place
   pub device_place :
       Well s t → (a i : ℕ) → eqb a 0 ≡ false → i < length t → device_of t a ≡ (get_or t i free_of).address
-      → (eqb (get_or t i free_of).address 0 ≡ false) × (seek_of t (addresses_of t) a ≡ At i)
+      → (eqb (get_or t i free_of).address 0 ≡ false) × (seek_of t (addresses_of t) a ≡ Some i)
   unfolding seek_of
   device_place w a i z h e = go (find_link_of t a) refl e
     where
-      go : (f : Found) → find_link_of t a ≡ f → on_found f a (λ j. (get_or t j free_of).address) ≡ (get_or t i free_of).address
-          → (eqb (get_or t i free_of).address 0 ≡ false) × (on_found f (find_of (addresses_of t) a) (λ j. At j) ≡ At i)
-      go Nothing l q =
+      go : (f : Place ℕ) → find_link_of t a ≡ f → on_found f a (λ j. (get_or t j free_of).address) ≡ (get_or t i free_of).address
+          → (eqb (get_or t i free_of).address 0 ≡ false) × (on_found f (find_of (addresses_of t) a) (λ j. Some j) ≡ Some i)
+      go None l q =
           let some : eqb (get_or t i free_of).address 0 ≡ false = rw q at z in
           (some, rw q (find_at t i w.distinct h some))
-      go (At j) l q =
+      go (Some j) l q =
           let valid = (linked_fits s t w a j l).valid in
           let some : eqb (get_or t j free_of).address 0 ≡ false = valid_named (get_or t j free_of).address valid in
           let there = find_at t j w.distinct (link_inside t a j l) some in
@@ -171,12 +170,12 @@ module _ (s : Settings) (t : List Record) where
 
   -- the peer that a primitive names, where no record has the address as a link's
   pub asked_named :
-      (q b c a : ℕ) → coming_peer s t (primitive q b c) ≡ some a → (b ≡ a) × (eqb a 0 ≡ false) × (find_link_of t b ≡ Nothing)
+      (q b c a : ℕ) → coming_peer s t (primitive q b c) ≡ some a → (b ≡ a) × (eqb a 0 ≡ false) × (find_link_of t b ≡ None)
   unfolding may_ask
   asked_named q b c a e = go (may_ask s q b c) (is_found (find_link_of t b)) (role_allowed q s.role) refl refl e
     where
       go : (m f l : Bool) → may_ask s q b c ≡ m → is_found (find_link_of t b) ≡ f → pick (m && not f) (pick l (some b) none) none ≡ some a
-          → (b ≡ a) × (eqb a 0 ≡ false) × (find_link_of t b ≡ Nothing)
+          → (b ≡ a) × (eqb a 0 ≡ false) × (find_link_of t b ≡ None)
       go true false true v f w =
           let p : b ≡ a = cc in
           (p, valid_named a (rw p at (and_right (not (eqb b s.own)) (valid_of b) (and_right (code_allowed q c) (not (eqb b s.own) && valid_of b) v))), unfound (find_link_of t b) f)

@@ -2,6 +2,7 @@
 --     find_at                in a table in which no address stands twice, a peer is found at its place
 --     hear-alone, ask-alone  where the role answers, no rule touches another record
 -- Assumes nothing.
+use Rattle.std.specs.Prelude.{Option}
 use Prim.Native.Nat.{ℕ, zero, suc, ◌+◌, ◌<◌}
 use native.Mathlib.Nat.{not-suc-le-zero, le_of_suc-le-suc}
 use native.Mathlib.Omega.{arith}
@@ -23,7 +24,6 @@ use Rattle.octets.specs.declared.heard.Heard.{Heard}
 use Rattle.octets.specs.declared.heard.Heard.TheVariants as heard
 use Rattle.octets.specs.declared.heard.Kind.{Kind}
 use Rattle.octets.specs.declared.heard.Kind.TheVariants as kind
-use Rattle.octets.specs.declared.element.Comeback.{Comeback}
 use Rattle.peer.specs.Settings.{role_answers, role_associates, settings_fit}
 use Rattle.peer.specs.Record.{free_of, kind_of, sent_of, under_way, is_free, is_sent}
 use Rattle.peer.specs.Fit.{place_fits}
@@ -45,7 +45,7 @@ use Rattle.peer.specs.declared.turn.Turn.{Turn}
 use Rattle.table.specs.Places.{first_from, all_tails, all_of, addresses_of, find_of}
 use Rattle.table.specs.Fit.{apart, alone_in, distinct_of, well_formed}
 use Rattle.table.specs.Order.{address_of}
-use Rattle.table.specs.declared.rules.seat.Found.TheVariants.{At}
+use Rattle.std.specs.declared.option.Option.TheVariants as option
 
 -- a place in a list whose every element passes a test
 pub all_at : {A : Type 0} (f : A → Bool) (t : List A) (i : ℕ) (d : A) → all_of f t ≡ true → i < length t → f (get_or t i d) ≡ true
@@ -55,15 +55,15 @@ all_at f (x ∷ t) zero d e h = and_left (f x) (all_of f t) e
 all_at f (x ∷ t) (suc i) d e h = all_at f t i d (and_right (f x) (all_of f t) e) (le_of_suc-le-suc h)
 
 -- an address that is not 0 and stands at place i is found there
-find_from : (ads : List ℕ) (n i a : ℕ) → distinct_of ads ≡ true → i < length ads → get_or ads i 0 ≡ a → eqb a 0 ≡ false → first_from (λ b. eqb b a) n ads ≡ At (n + i)
+find_from : (ads : List ℕ) (n i a : ℕ) → distinct_of ads ≡ true → i < length ads → get_or ads i 0 ≡ a → eqb a 0 ≡ false → first_from (λ b. eqb b a) n ads ≡ option.Some (n + i)
 unfolding all_tails first_from alone_in
 find_from [] n i a t h e z = absurd (not-suc-le-zero h)
-find_from (x ∷ xs) n zero a t h e z = rw (eq-eqb x a e) (ap At (omega arith))
+find_from (x ∷ xs) n zero a t h e z = rw (eq-eqb x a e) (ap option.Some (omega arith))
 find_from (x ∷ xs) n (suc i) a t h e z =
     go (eqb x a) refl (find_from xs (n + 1) i a (and_right (alone_in x xs) (distinct_of xs) t) (le_of_suc-le-suc h) e z)
   where
-    go : (b : Bool) → eqb x a ≡ b → first_from (λ c. eqb c a) (n + 1) xs ≡ At (n + 1 + i) → pick b (At n) (first_from (λ c. eqb c a) (n + 1) xs) ≡ At (n + suc i)
-    go false q ih = ih ∙ ap At (omega arith)
+    go : (b : Bool) → eqb x a ≡ b → first_from (λ c. eqb c a) (n + 1) xs ≡ option.Some (n + 1 + i) → pick b (option.Some n) (first_from (λ c. eqb c a) (n + 1) xs) ≡ option.Some (n + suc i)
+    go false q ih = ih ∙ ap option.Some (omega arith)
     go true q ih =
         let w : x ≡ a = eqb-true x a q in
         let y : eqb x 0 ≡ false = rw w z in
@@ -71,10 +71,10 @@ find_from (x ∷ xs) n (suc i) a t h e z =
         let f : eqb a x ≡ false = not-true (eqb a x) (rw e at (all_at (apart x) xs i 0 l (le_of_suc-le-suc h))) in
         absurd (eqb-false a x f (sym w))
 
-pub find_at : (t : List Record) (i : ℕ) → distinct_of (addresses_of t) ≡ true → i < length t → eqb (get_or t i free_of).address 0 ≡ false → find_of (addresses_of t) (get_or t i free_of).address ≡ At i
+pub find_at : (t : List Record) (i : ℕ) → distinct_of (addresses_of t) ≡ true → i < length t → eqb (get_or t i free_of).address 0 ≡ false → find_of (addresses_of t) (get_or t i free_of).address ≡ option.Some i
 find_at t i d h z =
     find_from (addresses_of t) 0 i (get_or t i free_of).address d (rw (length-map t address_of) h) (get_or-map address_of t i free_of) z
-    ∙ ap At (omega arith)
+    ∙ ap option.Some (omega arith)
 
 -- what well-formedness gives
 pub wf_settings : (s : Settings) (t : List Record) → well_formed s t ≡ true → settings_fit s ≡ true
@@ -121,7 +121,7 @@ module _ (s : Settings) (p : Record) (fit : settings_fit s ≡ true) (r : role_a
       (λ q. clash r (no_answers s fit (sent_asks p.exchange k s.role p.state p.left (fits_of s p (rw f at w)).suits q) on))
       (λ q. q))
 
-  response_alone : (k : Kind) (status aid : ℕ) (c : Comeback) → role_associates s.role ≡ true → Alone (response_heard s p k status aid c)
+  response_alone : (k : Kind) (status aid : ℕ) (c : Option ℕ) → role_associates s.role ≡ true → Alone (response_heard s p k status aid c)
   unfolding response_heard still_of replied_of turn_of
   response_alone k status aid c on = rw (none_sent k on)
 

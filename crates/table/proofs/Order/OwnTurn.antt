@@ -36,7 +36,7 @@ use Rattle.table.specs.Read.{read_of}
 use Rattle.table.specs.Receive.{heard_from, heard_at, received_of}
 use Rattle.table.specs.Ask.{may_ask, no_place, refusals_at, asked_at, asked_of}
 use Rattle.table.specs.Order.{Coming, frame, primitive, Handed, Gets, Whole, happens, read_peer, coming_peer, device_named, device_of, peer_named, address_of}
-use Rattle.table.specs.declared.rules.seat.Found.TheVariants.{At, Nothing}
+use Rattle.std.specs.Prelude.{Some, None}
 use Rattle.table.specs.declared.rules.read.Reading.{Reading}
 use Rattle.table.specs.declared.rules.read.Reading.TheVariants.{Refused, Discarded, Admitted, From}
 use Rattle.table.specs.declared.rules.answer.Answer.{Answer}
@@ -63,7 +63,7 @@ same_names p q e = λ i. (e.0 i, e.1 i)
 
 module _ (s : Settings) where
   abbrev refusal : ℕ → Record → ℕ → ℕ → ℕ → ℕ
-  refusal i p q a c = first_of (refusals_at s p unseen (At i) Nothing Nothing q a c)
+  refusal i p q a c = first_of (refusals_at s p unseen (Some i) None None q a c)
 
   abbrev heard_next : Record → Reading → Record
   heard_next p (Refused n) = p
@@ -79,7 +79,7 @@ module _ (s : Settings) where
 
   -- a primitive's turn speaks to the first link
   abbrev asked : ℕ → Record → ℕ → ℕ → Turn
-  asked i p q c = towards_of (spoken_at p) (ask_of s (aid_of (At i)) p unseen q c)
+  asked i p q c = towards_of (spoken_at p) (ask_of s (aid_of (Some i)) p unseen q c)
 
   abbrev next_of : ℕ → Record → Coming → Record
   next_of i p (frame xs) = heard_next p (read_of s.own (role_associates s.role) xs)
@@ -123,7 +123,7 @@ module _ (s : Settings) where
   same_of i p (frame xs) = same_read p (read_of s.own (role_associates s.role) xs)
   same_of i p (primitive q a c) =
       pick_both (λ (x : Record). names x ≡ names p) (eqb (refusal i p q a c) 0)
-      (same_names p (ask_of s (aid_of (At i)) p unseen q c).peer (ask_links s p (aid_of (At i)) unseen q c)) refl
+      (same_names p (ask_of s (aid_of (Some i)) p unseen q c).peer (ask_links s p (aid_of (Some i)) unseen q c)) refl
 
   -- a turn that touches no other record, in its place
   seated : (t : List Record) (i : ℕ) (turn : Turn) (out : List ℕ) → Alone turn → told (seated_of t i turn) out ≡ (set t i turn.peer, turned turn out)
@@ -173,7 +173,7 @@ module _ (s : Settings) where
           go n = by (eqb n 0)
             where
               by : (b : Bool) → told (pick b (seated_of t i (asked i p q c)) (refused_of t n)) out ≡ (set t i (pick b (asked i p q c).peer p), pick b (turned (asked i p q c) out) (settles (refusal_answer n) out))
-              by true = seated t i (asked i p q c) out (ask_alone s (aid_of (At i)) p unseen q c)
+              by true = seated t i (asked i p q c) out (ask_alone s (aid_of (Some i)) p unseen q c)
               by false = rw (set-get_or t i free_of)
 
     -- an event that names no valid peer is settled before a record is looked up

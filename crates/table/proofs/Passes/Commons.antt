@@ -10,6 +10,7 @@ use borrow.Author.Tests.{eqb-true, le-ltb}
 use lib.Dec.{eqb}
 use lib.ListN.{length, get_or}
 use lib.Seq.{set-get_or}
+use Rattle.std.proofs.Common.{None}
 use Rattle.octets.proofs.Branch.{and_left, and_right, by_bool}
 use Rattle.octets.specs.Address.{group_of, valid_of}
 use Rattle.octets.specs.Class.{class_of, is_public_action}
@@ -30,7 +31,6 @@ use Rattle.peer.specs.Hear.{group_heard, hear_of}
 use Rattle.peer.specs.Record.{free_of, fresh_of}
 use Rattle.peer.specs.Turn.{admit, nothing_told, replied_of, still_of, towards_of, turn_of}
 use Rattle.peer.specs.declared.record.Record.{Record}
-use Rattle.peer.specs.declared.reply.Reply.TheVariants.{Silent}
 use Rattle.peer.specs.declared.settings.Settings.{Settings}
 use Rattle.peer.specs.declared.turn.Turn.{Turn}
 use Rattle.table.specs.Answer.{settled_of}
@@ -39,8 +39,7 @@ use Rattle.table.specs.Places.{on_found}
 use Rattle.table.specs.Read.{for_us, read_from, read_full, read_of}
 use Rattle.table.specs.Seat.{newcomer_of, peer_of, seated_of, starts_of, stranger_of, turn_in}
 use Rattle.table.specs.declared.rules.read.Reading.TheVariants.{From}
-use Rattle.table.specs.declared.rules.seat.Found.{Found}
-use Rattle.table.specs.declared.rules.seat.Found.TheVariants.{At, Nothing}
+use Rattle.std.specs.Prelude.{Option, Some, None}
 
 -- ---- the first octet
 
@@ -106,15 +105,15 @@ module _ (xs : List ℕ) (l : 24 ≤ length xs) (m : length xs ≤ 4096) where
 
 module _ (s : Settings) where
   -- nothing is told and nothing said, and the record stays
-  heard_still : (p : Record) (k : FrameClass) (group : Bool) → passes_of s.role k p.state ≡ true → hear_of s p k group Other ≡ record { peer = p; told = nothing_told; verdict = admit; ds = 0; sole = false; reply = Silent }
+  heard_still : (p : Record) (k : FrameClass) (group : Bool) → passes_of s.role k p.state ≡ true → hear_of s p k group Other ≡ record { peer = p; told = nothing_told; verdict = admit; ds = 0; sole = false; reply = None }
   unfolding hear_of group_heard still_of replied_of turn_of
   heard_still p k true h = rw (h, ds_beside s.role p.state p.state refl)
   heard_still p k false h = rw (h, ds_beside s.role p.state p.state refl)
 
   pub quiet_turn :
-      (t : List Record) (at free : Found) (a : ℕ) (k : FrameClass) (group : Bool) (full : Turn) → passes_of s.role k (peer_of t at a).state ≡ true
+      (t : List Record) (at free : Option ℕ) (a : ℕ) (k : FrameClass) (group : Bool) (full : Turn) → passes_of s.role k (peer_of t at a).state ≡ true
       → turn_in t at free (towards_of a (hear_of s (peer_of t at a) k group Other)) full
       ≡ settled_of t (record { current = 0; code = 0; written = 0; refusal = 0; verdict = admit; notice = 0; ds = 0; state = on_found at 0 (λ i. (peer_of t at a).state) })
   unfolding newcomer_of starts_of stranger_of seated_of settled_of towards_of no_links fresh_of
-  quiet_turn t Nothing free a k group full h = rw (heard_still (fresh_of a) k group h)
-  quiet_turn t (At i) free a k group full h = rw (heard_still (get_or t i free_of) k group h, set-get_or t i free_of)
+  quiet_turn t None free a k group full h = rw (heard_still (fresh_of a) k group h)
+  quiet_turn t (Some i) free a k group full h = rw (heard_still (get_or t i free_of) k group h, set-get_or t i free_of)

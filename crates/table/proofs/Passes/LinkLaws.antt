@@ -15,8 +15,7 @@ use Rattle.peer.specs.Record.{free_of}
 use Rattle.peer.specs.declared.record.Record.{Record}
 use Rattle.table.specs.Fit.{alone_in, apart, distinct_of, links_apart}
 use Rattle.table.specs.Places.{all_of, all_tails, find_link_of, first_from, has_link, is_found, link_addresses_of, some_of}
-use Rattle.table.specs.declared.rules.seat.Found.{Found}
-use Rattle.table.specs.declared.rules.seat.Found.TheVariants.{At, Nothing}
+use Rattle.std.specs.Prelude.{Option, Some, None}
 use Rattle.table.proofs.Passes.Lists.{all_get, first_at, first_none, join, swap}
 
 -- ---- tests over lists
@@ -45,13 +44,13 @@ module _ {A : Type 0} where
   -- the one element that passes a test is the first
   pub first_only :
       (f : A → Bool) (d : A) (t : List A) (n i : ℕ) → f d ≡ false → f (get_or t i d) ≡ true → all_of (λ p. not (f p)) (set t i d) ≡ true
-      → first_from f n t ≡ At (n + i)
+      → first_from f n t ≡ Some (n + i)
   unfolding first_from all_tails
   first_only f d [] n i z e h = clash e z
-  first_only f d (p ∷ ps) n zero z e h = rw e (ap At (omega arith))
+  first_only f d (p ∷ ps) n zero z e h = rw e (ap Some (omega arith))
   first_only f d (p ∷ ps) n (suc i) z e h =
       let k = both (not (f p)) _ h in
-      rw (not-true (f p) k.0) (first_only f d ps (n + 1) i z e k.1 ∙ ap At (omega arith))
+      rw (not-true (f p) k.0) (first_only f d ps (n + 1) i z e k.1 ∙ ap Some (omega arith))
 
 -- ---- the two halves of `links_apart`
 
@@ -124,16 +123,16 @@ module _ (a : ℕ) (z : eqb a 0 ≡ false) where
       (λ e. rw e))
       (only_here ps i (distinct_right (links_of p.links) (link_addresses_of ps) d) h)
 
-  pub link_place : (t : List Record) (i : ℕ) → distinct_of (link_addresses_of t) ≡ true → has_link a (get_or t i free_of) ≡ true → find_link_of t a ≡ At i
+  pub link_place : (t : List Record) (i : ℕ) → distinct_of (link_addresses_of t) ≡ true → has_link a (get_or t i free_of) ≡ true → find_link_of t a ≡ Some i
   unfolding find_link_of
-  link_place t i d h = rw z (first_only (has_link a) free_of t 0 i (free_without a z) h (only_here t i d h) ∙ ap At (omega arith))
+  link_place t i d h = rw z (first_only (has_link a) free_of t 0 i (free_without a z) h (only_here t i d h) ∙ ap Some (omega arith))
 
 -- what is found
-pub link_found : (t : List Record) (a i : ℕ) → find_link_of t a ≡ At i → (eqb a 0 ≡ false) × (has_link a (get_or t i free_of) ≡ true)
+pub link_found : (t : List Record) (a i : ℕ) → find_link_of t a ≡ Some i → (eqb a 0 ≡ false) × (has_link a (get_or t i free_of) ≡ true)
 unfolding find_link_of
 link_found t a i e = by_bool (eqb a 0)
     (λ z.
-    let q : Nothing ≡ At i = rw z at e in
+    let q : None ≡ Some i = rw z at e in
     let w : ◌≡◌ {A = ℕ} 0 1 = cc in absurd (omega arith))
     (λ z.
     let at_i : i - 0 ≡ i = omega arith in
@@ -144,19 +143,19 @@ has_inside a z [] i k = clash k (free_without a z)
 has_inside a z (p ∷ ps) zero k = omega arith
 has_inside a z (p ∷ ps) (suc i) k = let l = has_inside a z ps i k in omega arith
 
-pub link_inside : (t : List Record) (a i : ℕ) → find_link_of t a ≡ At i → i < length t
+pub link_inside : (t : List Record) (a i : ℕ) → find_link_of t a ≡ Some i → i < length t
 link_inside t a i e = let h = link_found t a i e in has_inside a h.0 t i h.1
 
-pub unfound : (f : Found) → is_found f ≡ false → f ≡ Nothing
-unfound Nothing e = refl
-unfound (At i) e = wrong (sym e)
+pub unfound : (f : Option ℕ) → is_found f ≡ false → f ≡ None
+unfound None e = refl
+unfound (Some i) e = wrong (sym e)
 
 pub link_some : (t : List Record) (a : ℕ) → eqb a 0 ≡ false → some_of (has_link a) t ≡ is_found (find_link_of t a)
 unfolding find_link_of
 link_some t a z = rw z (some_found (has_link a) 0 t)
 
 -- what is not found is no record's link
-pub link_nowhere : (t : List Record) (a : ℕ) → eqb a 0 ≡ false → find_link_of t a ≡ Nothing → all_of (λ p. not (has_link a p)) t ≡ true
+pub link_nowhere : (t : List Record) (a : ℕ) → eqb a 0 ≡ false → find_link_of t a ≡ None → all_of (λ p. not (has_link a p)) t ≡ true
 unfolding find_link_of
 link_nowhere t a z e = first_none (has_link a) t 0 (rw z at e)
 
@@ -165,5 +164,5 @@ apart_links a t h =
     all_links (apart a) t
     ∙ all_weak (λ (p : Record). not (has_link a p)) (λ p. all_of (apart a) (links_of p.links)) (λ p e. not-false _ (sym (without a p) ∙ not-true _ e)) t h
 
-pub no_link : (t : List Record) (a : ℕ) → eqb a 0 ≡ false → find_link_of t a ≡ Nothing → all_of (apart a) (link_addresses_of t) ≡ true
+pub no_link : (t : List Record) (a : ℕ) → eqb a 0 ≡ false → find_link_of t a ≡ None → all_of (apart a) (link_addresses_of t) ≡ true
 no_link t a z e = apart_links a t (link_nowhere t a z e)

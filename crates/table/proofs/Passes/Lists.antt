@@ -15,7 +15,7 @@ use Rattle.peer.specs.declared.record.Record.{Record}
 use Rattle.table.proofs.Passes.Loops.{at_most_one}
 use Rattle.table.specs.Places.{first_from, all_tails, all_of, count_of, addresses_of}
 use Rattle.table.specs.Fit.{alone_in, apart, distinct_of}
-use Rattle.table.specs.declared.rules.seat.Found.TheVariants.{At, Nothing}
+use Rattle.std.specs.Prelude.{Some, None}
 
 pub join : {a b : Bool} → a ≡ true → b ≡ true → (a && b) ≡ true
 join {a} {b} h k = rw (h, k)
@@ -84,15 +84,15 @@ get_map f (p ∷ ps) (suc i) d = get_map f ps i d
 
 -- ---- the first that passes a test
 
-pub first_at : {A : Type 0} (f : A → Bool) (d : A) (l : List A) (n i : ℕ) → first_from f n l ≡ At i → (n ≤ i) × (f (get_or l (i - n) d) ≡ true)
+pub first_at : {A : Type 0} (f : A → Bool) (d : A) (l : List A) (n i : ℕ) → first_from f n l ≡ Some i → (n ≤ i) × (f (get_or l (i - n) d) ≡ true)
 unfolding first_from
 first_at f d [] n i e = wrong_found e
   where
-    wrong_found : {P : Type 0} → Nothing ≡ At i → P
+    wrong_found : {P : Type 0} → None ≡ Some i → P
     wrong_found e = let z : ◌≡◌ {A = ℕ} 0 1 = cc in absurd (omega arith)
 first_at f d (p ∷ ps) n i e = by_bool (f p)
     (λ b.
-    let q : At n ≡ At i = rw b at e in
+    let q : Some n ≡ Some i = rw b at e in
     let z : n ≡ i = cc in
     let zero_left : i - n ≡ 0 = omega arith in
     (omega arith, rw zero_left b))
@@ -102,12 +102,12 @@ first_at f d (p ∷ ps) n i e = by_bool (f p)
     let more : i - n ≡ suc (i - (n + 1)) = omega arith in
     (omega arith, rw more k.1))
 
-pub first_none : {A : Type 0} (f : A → Bool) (l : List A) (n : ℕ) → first_from f n l ≡ Nothing → all_of (λ b. not (f b)) l ≡ true
+pub first_none : {A : Type 0} (f : A → Bool) (l : List A) (n : ℕ) → first_from f n l ≡ None → all_of (λ b. not (f b)) l ≡ true
 unfolding first_from all_tails
 first_none f [] n e = refl
 first_none f (p ∷ ps) n e = by_bool (f p)
     (λ b.
-    let q : At n ≡ Nothing = rw b at e in
+    let q : Some n ≡ None = rw b at e in
     let z : ◌≡◌ {A = ℕ} 0 1 = cc in absurd (omega arith))
     (λ b. rw b (first_none f ps (n + 1) (rw b at e)))
 

@@ -11,8 +11,7 @@ use lib.ListN.{length, take, drop, get_or, set, drop_of_length-le}
 use lib.Seq.{drop-cons, take-suc-set, drop-set-lt, take_all}
 use Rattle.octets.specs.Pick.{pick}
 use Rattle.table.specs.Places.{first_from, all_tails, all_of, count_of}
-use Rattle.table.specs.declared.rules.seat.Found.{Found}
-use Rattle.table.specs.declared.rules.seat.Found.TheVariants.{At, Nothing}
+use Rattle.std.specs.Prelude.{Option, Some, None}
 
 module _ {A B : Type 0} (F : List A → B) (t : List A) (i : ℕ) where
   -- what a definition says of the places from i on: the place i, and those from i + 1 on
@@ -22,8 +21,8 @@ module _ {A B : Type 0} (F : List A → B) (t : List A) (i : ℕ) where
   pub left_end : length t ≤ i → F (drop i t) ≡ F []
   left_end h = rw (drop_of_length-le t h)
 
-module _ {A : Type 0} (f : A → Bool) (t : List A) (i : ℕ) (r : Found) (q : first_from f i (drop i t) ≡ r) where
-  pub first_yes : (d : A) → i < length t → f (get_or t i d) ≡ true → At i ≡ r
+module _ {A : Type 0} (f : A → Bool) (t : List A) (i : ℕ) (r : Option ℕ) (q : first_from f i (drop i t) ≡ r) where
+  pub first_yes : (d : A) → i < length t → f (get_or t i d) ≡ true → Some i ≡ r
   unfolding first_from
   first_yes d h e = sym (left_step (first_from f i) t i d h ∙ rw e) ∙ q
 
@@ -31,7 +30,7 @@ module _ {A : Type 0} (f : A → Bool) (t : List A) (i : ℕ) (r : Found) (q : f
   unfolding first_from
   first_no d h e = sym (left_step (first_from f i) t i d h ∙ rw e) ∙ q
 
-  pub first_end : length t ≤ i → Nothing ≡ r
+  pub first_end : length t ≤ i → None ≡ r
   unfolding first_from
   first_end h = sym (left_end (first_from f i) t i h) ∙ q
 

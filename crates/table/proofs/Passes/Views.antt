@@ -1,7 +1,7 @@
 -- What one pass over records by value finds, and that well-formedness follows from it.
 -- Assumes nothing.
-use mathlib.Core.Path.{◌≡◌, refl, sym, ◌∙◌}
-use mathlib.Core.Bool.{Bool, true, ◌&&◌, ◌||◌}
+use mathlib.Core.Path.{◌≡◌, sym, ◌∙◌}
+use mathlib.Core.Bool.{Bool, ◌&&◌, ◌||◌}
 use mathlib.Core.List.{List, ◌∷◌}
 use Prim.Native.Nat.{ℕ, ◌+◌, ◌-◌, ◌<◌, ◌≤◌}
 use native.Mathlib.Omega.{arith}
@@ -9,17 +9,15 @@ use lib.Dec.{leb}
 use lib.ListN.{length, drop, get_or, set, length-map, length-set, get_or-map}
 use lib.Seq.{drop-set-lt, get_or-set_same}
 use Rattle.peer.specs.Fit.{place_fits}
-use Rattle.peer.specs.Record.{associates, free_of, is_joined}
+use Rattle.peer.specs.Record.{free_of}
 use Rattle.peer.specs.Settings.{role_answers, settings_fit}
 use Rattle.peer.specs.declared.settings.Settings.{Settings}
 use Rattle.peer.specs.declared.record.Record.{Record}
-use Rattle.octets.specs.Pick.{pick}
 use Rattle.table.specs.Places.{all_of, addresses_of, link_addresses_of}
 use Rattle.table.specs.Others.{associated_of}
 use Rattle.table.specs.Fit.{crowd_of, distinct_of, links_apart, sparse_of, well_formed}
 use Rattle.table.specs.declared.records.fit.View.{View}
-use Rattle.table.proofs.Passes.Loops.{all_end, all_step, left_end, left_step}
-use Rattle.table.proofs.Passes.Tallies.{Tallied, tallied_all, tallied_more, tallied_none}
+use Rattle.table.proofs.Passes.Loops.{left_end, left_step}
 
 -- what a pass finds
 abbrev pub Sees : Settings → List Record → View → Type 0
@@ -55,38 +53,3 @@ named_more t addresses i long low v z p e =
     let theirs : drop (i - 1) (addresses_of t) ≡ p.address ∷ drop i (addresses_of t) =
     left_step (λ l. l) (addresses_of t) (i - 1) free_of.address (rw (length-map t (λ p. p.address)) inside) ∙ rw (next, get_or-map (λ (p : Record). p.address) t (i - 1) free_of, ← e) in
     record { wide = length-set addresses (i - 1) p.address ∙ v.wide; same = mine ∙ rw v.same (sym theirs) }
-
--- What a pass has found where the places from i on are passed.
-pub record Viewed (s : Settings) (t : List Record) (addresses : List ℕ) (fit : Bool) (associated joined associating i : ℕ) : Type 0 where
-  pub tally : Tallied t associated joined associating i
-  pub named : Named t addresses i
-  pub fits : fit ≡ all_of (place_fits s) (drop i t)
-
-pub viewed_none : (s : Settings) (t : List Record) (addresses : List ℕ) → length t ≡ 32 → length addresses ≡ 32 → Viewed s t addresses true 0 0 0 32
-viewed_none s t addresses h k =
-    record {
-      tally = tallied_none t h 32 refl;
-      named = named_none t addresses h k;
-      fits = sym (all_end (place_fits s) t 32 (omega (arith, h)));
-    }
-
-module _ (s : Settings) (t : List Record) (addresses : List ℕ) (fit : Bool) (associated joined associating i : ℕ) (v : Viewed s t addresses fit associated joined associating i) where
-  -- one place more: p its record
-  pub viewed_more : 0 < i → (p : Record) → p ≡ get_or t (i - 1) free_of → (fit' : Bool) → fit' ≡ (place_fits s p && fit) → (associated' : ℕ) → associated' ≡ pick (is_joined p) p.address associated
-      → (joined' : ℕ) → joined' ≡ joined + pick (is_joined p) 1 0 → (associating' : ℕ) → associating' ≡ associating + pick (associates p) 1 0
-      → Viewed s t (set addresses (i - 1) p.address) fit' associated' joined' associating' (i - 1)
-  viewed_more z p e fit' ef associated' ea joined' ej associating' ek =
-      let next : i - 1 + 1 ≡ i = omega arith in
-      let inside : i - 1 < length t = omega (arith, v.tally.long, v.tally.low) in
-      record {
-        tally = tallied_more t associated joined associating i v.tally z p e associated' ea joined' ej associating' ek;
-        named = named_more t addresses i v.tally.long v.tally.low v.named z p e;
-        fits = ef ∙ rw v.fits (sym (all_step (place_fits s) t (i - 1) free_of inside ∙ rw (← e, next)));
-      }
-
-  -- after the first
-  pub viewed_all : i ≤ 0 → Sees s t (record { fit = fit; crowd = record { joined = joined; associating = associating }; associated = associated; addresses = addresses })
-  viewed_all h =
-      let first : i ≡ 0 = omega arith in
-      let all = tallied_all t associated joined associating i v.tally h in
-      (rw first at v.fits, all.1, all.0, rw first at v.named.same)

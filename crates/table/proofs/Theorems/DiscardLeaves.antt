@@ -30,8 +30,7 @@ use Rattle.table.specs.Answer.{settled_of, refused_of}
 use Rattle.table.specs.Seat.{peer_of, seated_of, stranger_of, starts_of, newcomer_of, turn_in}
 use Rattle.table.specs.Read.{read_of}
 use Rattle.table.specs.Receive.{heard_from, heard_at, received_of}
-use Rattle.table.specs.declared.rules.seat.Found.{Found}
-use Rattle.table.specs.declared.rules.seat.Found.TheVariants.{At, Nothing}
+use Rattle.std.specs.Prelude.{Option, Some, None}
 use Rattle.table.specs.declared.rules.read.Reading.{Reading}
 use Rattle.table.specs.declared.rules.read.Reading.TheVariants.{Refused, Discarded, Admitted, From}
 use Rattle.table.specs.declared.rules.answer.Met.{Met}
@@ -49,25 +48,25 @@ module _ (s : Settings) (t : List Record) (k : FrameClass) (g : Bool) (h : Heard
       let d = discard_turn s (get_or t i free_of) k g h v in
       rw (d.1, d.0) (set-get_or t i free_of)
 
-  newcomer_leaves : (free : Found) (a : ℕ) → Leaves t (newcomer_of t free (turn a (fresh_of a)) (towards_of a (full_of s (fresh_of a))))
+  newcomer_leaves : (free : Option ℕ) (a : ℕ) → Leaves t (newcomer_of t free (turn a (fresh_of a)) (towards_of a (full_of s (fresh_of a))))
   unfolding Leaves newcomer_of stranger_of starts_of seated_of fresh_of towards_of no_links
   newcomer_leaves free a = either (starts_of (turn a (fresh_of a))) refl free
     where
       quiet : (hear_of s (fresh_of a) k g h).verdict ≡ 2 → starts_of (turn a (fresh_of a)) ≡ false
       quiet v = rw (discard_turn s (fresh_of a) k g h v).0
 
-      either : (b : Bool) → starts_of (turn a (fresh_of a)) ≡ b → (f : Found) → Leaves t (pick b (on_found f (stranger_of t (towards_of a (full_of s (fresh_of a)))) (λ i. seated_of t i (turn a (fresh_of a)))) (stranger_of t (turn a (fresh_of a))))
-      either true e Nothing v = refl
-      either true e (At i) v = clash e (quiet v)
+      either : (b : Bool) → starts_of (turn a (fresh_of a)) ≡ b → (f : Option ℕ) → Leaves t (pick b (on_found f (stranger_of t (towards_of a (full_of s (fresh_of a)))) (λ i. seated_of t i (turn a (fresh_of a)))) (stranger_of t (turn a (fresh_of a))))
+      either true e None v = refl
+      either true e (Some i) v = clash e (quiet v)
       either false e f v = refl
 
   from_leaves : (a : ℕ) → Leaves t (heard_from s t (addresses_of t) a g k h)
   unfolding heard_from
   from_leaves a = found (seek_of t (addresses_of t) a)
     where
-      found : (at : Found) → Leaves t (turn_in t at (find_of (addresses_of t) 0) (turn a (peer_of t at a)) (towards_of a (full_of s (peer_of t at a))))
-      found Nothing = newcomer_leaves (find_of (addresses_of t) 0) a
-      found (At i) = seated_leaves a i
+      found : (at : Option ℕ) → Leaves t (turn_in t at (find_of (addresses_of t) 0) (turn a (peer_of t at a)) (towards_of a (full_of s (peer_of t at a))))
+      found None = newcomer_leaves (find_of (addresses_of t) 0) a
+      found (Some i) = seated_leaves a i
 
 read_leaves : (s : Settings) (t : List Record) (r : Reading) → Leaves t (heard_at s t (addresses_of t) r)
 unfolding Leaves refused_of settled_of

@@ -37,8 +37,7 @@ use Rattle.table.specs.Seat.{aid_of, newcomer_of, peer_of, seated_of, starts_of,
 use Rattle.table.specs.Step.{step_of}
 use Rattle.table.specs.declared.rules.answer.Met.{Met}
 use Rattle.table.specs.declared.rules.event.Event.TheVariants as event
-use Rattle.table.specs.declared.rules.seat.Found.TheVariants.{At, Nothing}
-use Rattle.table.specs.declared.rules.seat.Found.{Found}
+use Rattle.std.specs.Prelude.{Option, Some, None}
 use Rattle.table.proofs.Passes.Lists.{get_map, map_set}
 
 -- ---- a rejection of ours, in the whole table
@@ -48,17 +47,17 @@ state_of p = p.state
 
 module _ (s : Settings) (t : List Record) (q a c : ℕ) (r : rejects q c ≡ true) where
   -- the turn of a peer found at a place, or of one without a record
-  abbrev turn : Found → Turn
+  abbrev turn : Option ℕ → Turn
   turn at = towards_of (spoken_at (peer_of t at a)) (ask_of s (aid_of at) (peer_of t at a) (others_of s t) q c)
 
   -- What a rejection leaves of its peer's record it leaves of the whole table, place for place; a peer without a record gets none.
   module _ {A : Type 0} (f : Record → A) (kept : (p : Record) (aid : ℕ) (o : Others) → f (ask_of s aid p o q c).peer ≡ f p) where
-    turn_kept : (at free : Found) → map f (turn_in t at free (turn at) (turn at)).table ≡ map f t
+    turn_kept : (at free : Option ℕ) → map f (turn_in t at free (turn at) (turn at)).table ≡ map f t
     unfolding newcomer_of stranger_of seated_of starts_of declined_of turn_of ended_of changed_of fresh_of no_links towards_of
-    turn_kept Nothing free = rw (declines s 0 (fresh_of a) (others_of s t) q c r)
-    turn_kept (At i) free =
-        let alone : (turn (At i)).sole ≡ false = rw (declines s (aid_of (At i)) (get_or t i free_of) (others_of s t) q c r) in
-        rw (alone, map_set f t i (turn (At i)).peer, kept (get_or t i free_of) (aid_of (At i)) (others_of s t), ← get_map f t i free_of)
+    turn_kept None free = rw (declines s 0 (fresh_of a) (others_of s t) q c r)
+    turn_kept (Some i) free =
+        let alone : (turn (Some i)).sole ≡ false = rw (declines s (aid_of (Some i)) (get_or t i free_of) (others_of s t) q c r) in
+        rw (alone, map_set f t i (turn (Some i)).peer, kept (get_or t i free_of) (aid_of (Some i)) (others_of s t), ← get_map f t i free_of)
         (set-get_or (map f t) i (f free_of))
 
     unless_kept : (n : ℕ) (m : Met) → map f m.table ≡ map f t → map f (unless n t m).table ≡ map f t
@@ -87,11 +86,11 @@ module _ (s : Settings) (t : List Record) (q a c : ℕ) (r : rejects q c ≡ tru
   unfolding unless refused_of settled_of
   unless_word n m k = pick_both Quiet (eqb n 0) k refl
 
-  turn_word : (at free : Found) → (turn at).ds ≡ ds_none → Quiet (turn_in t at free (turn at) (turn at))
+  turn_word : (at free : Option ℕ) → (turn at).ds ≡ ds_none → Quiet (turn_in t at free (turn at) (turn at))
   unfolding newcomer_of stranger_of seated_of
-  turn_word Nothing Nothing k = pick_both Quiet (starts_of (turn Nothing)) k k
-  turn_word Nothing (At i) k = pick_both Quiet (starts_of (turn Nothing)) k k
-  turn_word (At j) free k = k
+  turn_word None None k = pick_both Quiet (starts_of (turn None)) k k
+  turn_word None (Some i) k = pick_both Quiet (starts_of (turn None)) k k
+  turn_word (Some j) free k = k
 
   -- and the distribution system hears nothing.
   pub no_word : s.edition ≡ 2 → (xs : List ℕ) (n : ℕ) → (step_of s t (event.Ask q a c) xs n).answer.ds ≡ ds_none

@@ -55,8 +55,7 @@ use Rattle.table.specs.declared.rules.answer.Met.{Met}
 use Rattle.table.specs.declared.rules.answer.Stepped.{Stepped}
 use Rattle.table.specs.declared.rules.event.Event.TheVariants as event
 use Rattle.table.specs.declared.rules.read.Reading.TheVariants.{From}
-use Rattle.table.specs.declared.rules.seat.Found.TheVariants.{At, Nothing}
-use Rattle.table.specs.declared.rules.seat.Found.{Found}
+use Rattle.std.specs.Prelude.{Option, Some, None}
 use Rattle.table.proofs.Order.OwnRecord.{all_at, hear_alone, wf_fits, wf_settings}
 use Rattle.table.proofs.Order.NamedPeer.{names, seek_same}
 use Rattle.table.proofs.Passes.Lists.{get_map, map_set}
@@ -89,7 +88,7 @@ module _ (s : Settings) (t : List Record) (a : ℕ) (group : Bool) (k : Sort) (k
   -- a step whose turn moves nothing
   calm_step :
       (xs : List ℕ) (n : ℕ) → read_of s.own (role_associates s.role) xs ≡ From a group k (heard.Request kind current)
-      → (i : ℕ) → seek_of t (addresses_of t) a ≡ At i → Unmoved (get_or t i free_of) (turn_at i)
+      → (i : ℕ) → seek_of t (addresses_of t) a ≡ Some i → Unmoved (get_or t i free_of) (turn_at i)
       → Calm t (step_of s t event.Frame xs n)
   unfolding stepped_of received_of refused_of settled_of heard_from seated_of towards_of
   calm_step xs n reads i found u =
@@ -108,9 +107,9 @@ module _ (s : Settings) (t : List Record) (a : ℕ) (group : Bool) (k : Sort) (k
   unfolding fresh_of
   forged_moves_nothing g xs n reads = go (seek_of t (addresses_of t) a) refl
     where
-      go : (at : Found) → seek_of t (addresses_of t) a ≡ at → (peer_of t at a).state ≡ 4 → is_timed_out (peer_of t at a).query ≡ false → Calm t (step_of s t event.Frame xs n)
-      go Nothing e four waits = absurd (omega (arith, four))
-      go (At i) e four waits = calm_step xs n reads i e (unmoved s g (get_or t i free_of) four waits (class_by k) group kind current)
+      go : (at : Option ℕ) → seek_of t (addresses_of t) a ≡ at → (peer_of t at a).state ≡ 4 → is_timed_out (peer_of t at a).query ≡ false → Calm t (step_of s t event.Frame xs n)
+      go None e four waits = absurd (omega (arith, four))
+      go (Some i) e four waits = calm_step xs n reads i e (unmoved s g (get_or t i free_of) four waits (class_by k) group kind current)
 
 -- ---- after a query that timed out: the record at place i of a well-formed table
 
@@ -122,7 +121,7 @@ module _ (s : Settings) (g : Guarded s) (t : List Record) (w : well_formed s t �
   answers = ap_answers s.role at_ap
 
   -- "After kind 5 the next request passes": one from an address of the peer to our own, of a class that passes, in a buffer that takes a frame
-  module _ (a : ℕ) (found : seek_of t (addresses_of t) a ≡ At i) (k : Sort) (kind : Kind) (current : ℕ) (through : passes_of s.role (class_by k) 4 ≡ true) (xs : List ℕ) (n : ℕ) (room : ltb n longest ≡ false) (reads : read_of s.own (role_associates s.role) xs ≡ From a false k (heard.Request kind current)) where
+  module _ (a : ℕ) (found : seek_of t (addresses_of t) a ≡ Some i) (k : Sort) (kind : Kind) (current : ℕ) (through : passes_of s.role (class_by k) 4 ≡ true) (xs : List ℕ) (n : ℕ) (room : ltb n longest ≡ false) (reads : read_of s.own (role_associates s.role) xs ≡ From a false k (heard.Request kind current)) where
     abbrev turn : Turn
     turn = hear_of s (get_or t i free_of) (class_by k) false (heard.Request kind current)
 
@@ -148,7 +147,7 @@ module _ (s : Settings) (g : Guarded s) (t : List Record) (w : well_formed s t �
 
     -- "and clears the mark": the next, from an address of the peer, moves nothing
     pub then_none :
-        (b : ℕ) → seek_of t (addresses_of t) b ≡ At i
+        (b : ℕ) → seek_of t (addresses_of t) b ≡ Some i
         → (group : Bool) (k' : Sort) (kind' : Kind) (current' : ℕ) (xs' : List ℕ) (n' : ℕ) → read_of s.own (role_associates s.role) xs' ≡ From b group k' (heard.Request kind' current')
         → Calm after.table (step_of s after.table event.Frame xs' n')
     then_none b there group k' kind' current' xs' n' reads' =

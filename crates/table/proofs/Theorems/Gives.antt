@@ -37,8 +37,7 @@ use Rattle.table.specs.Exactly.{read_refusals, frame_refusals, ask_refusals, lin
 use Rattle.table.specs.Link.{device_in, linked_at, linked_of, links_in}
 use Rattle.table.proofs.Theorems.Worded.{ruled_at, ruled_list, worded}
 use Rattle.table.proofs.Theorems.WordedLinks.{ruled_links_at, worded_links}
-use Rattle.table.specs.declared.rules.seat.Found.{Found}
-use Rattle.table.specs.declared.rules.seat.Found.TheVariants.{At, Nothing}
+use Rattle.std.specs.Prelude.{Option, Some, None}
 use Rattle.table.specs.declared.rules.read.Reading.{Reading}
 use Rattle.table.specs.declared.rules.read.Reading.TheVariants.{Refused, Discarded, Admitted, From}
 use Rattle.table.specs.declared.rules.answer.Met.{Met}
@@ -49,14 +48,14 @@ pub data Gives (t : List Record) : ℕ → Met → Type 0 where
   acts : {m : Met} → m.answer.refusal ≡ 0 → Gives t 0 m
 
 -- a turn refuses nothing
-turn_gives : (t : List Record) (at free : Found) (turn full : Turn) → Gives t 0 (turn_in t at free turn full)
+turn_gives : (t : List Record) (at free : Option ℕ) (turn full : Turn) → Gives t 0 (turn_in t at free turn full)
 unfolding seated_of stranger_of newcomer_of
-turn_gives t (At i) free turn full = acts refl
-turn_gives t Nothing free turn full = by_bool (starts_of turn) (λ e. rw e (found free)) (λ e. rw e (acts refl))
+turn_gives t (Some i) free turn full = acts refl
+turn_gives t None free turn full = by_bool (starts_of turn) (λ e. rw e (found free)) (λ e. rw e (acts refl))
   where
-    found : (free : Found) → Gives t 0 (on_found free (stranger_of t full) (λ i. seated_of t i turn))
-    found (At i) = acts refl
-    found Nothing = acts refl
+    found : (free : Option ℕ) → Gives t 0 (on_found free (stranger_of t full) (λ i. seated_of t i turn))
+    found (Some i) = acts refl
+    found None = acts refl
 
 unless_gives : {t : List Record} {m : Met} (n : ℕ) → Gives t 0 m → Gives t n (unless n t m)
 unfolding unless

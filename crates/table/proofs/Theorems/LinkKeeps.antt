@@ -26,8 +26,7 @@ use Rattle.table.specs.Fit.{alone_in, apart, distinct_of}
 use Rattle.table.specs.Link.{count_fits, count_in, device_in, given_in, link_allowed, links_in, may_link, used_elsewhere}
 use Rattle.table.specs.Places.{addresses_of, all_of, all_tails, count_of, find_link_of, find_of, has_link, is_found, link_addresses_of, on_found}
 use Rattle.table.specs.Seat.{newcomer_of, peer_of, seated_of, starts_of, stranger_of, turn_in}
-use Rattle.table.specs.declared.rules.seat.Found.{Found}
-use Rattle.table.specs.declared.rules.seat.Found.TheVariants.{At, Nothing}
+use Rattle.std.specs.Prelude.{Option, Some, None}
 use Rattle.table.proofs.Passes.LinkLaws.{all_links, all_weak, apart_both, apart_links, free_without, link_found, link_nowhere, only_here, unfound}
 use Rattle.table.proofs.Passes.LinkStores.{apart_lone, stored_apart}
 use Rattle.table.proofs.Passes.Lists.{all_set, first_none, join}
@@ -106,18 +105,18 @@ module _ (s : Settings) (t : List Record) (w : Well s t) (xs : List ℕ) where
   abbrev ls : Links
   ls = links_in xs
 
-  abbrev allowed : Found → ℕ → Bool
+  abbrev allowed : Option ℕ → ℕ → Bool
   allowed at l = link_allowed s at (find_of ads l) (find_link_of t l) l
 
-  pub record May (at : Found) : Type 0 where
+  pub record May (at : Option ℕ) : Type 0 where
     pub counts : count_fits xs ≡ true
     pub valid : valid_of device ≡ true
     pub own : not (eqb device s.own) ≡ true
-    pub alone : find_link_of t device ≡ Nothing
+    pub alone : find_link_of t device ≡ None
     pub distinct : distinct_of (device ∷ links_of ls) ≡ true
     pub given : all_of (allowed at) (given_in xs) ≡ true
 
-  pub may_of : (at : Found) → may_link s t ads at xs ≡ true → May at
+  pub may_of : (at : Option ℕ) → may_link s t ads at xs ≡ true → May at
   unfolding may_link
   may_of at h =
       let a = both (count_fits xs) _ h in
@@ -134,7 +133,7 @@ module _ (s : Settings) (t : List Record) (w : Well s t) (xs : List ℕ) where
         given = e.1;
       }
 
-  module _ (at : Found) (m : May at) where
+  module _ (at : Option ℕ) (m : May at) where
     -- each slot has 0 or a link that is allowed
     every : (P : ℕ → Bool) → P 0 ≡ true → ((l : ℕ) → allowed at l ≡ true → P l ≡ true) → all_of P (links_of ls) ≡ true
     every P z k = each_slot (allowed at) P z k (count_in xs) (links_of ls) m.given (none_behind xs m.counts)
@@ -160,17 +159,17 @@ module _ (s : Settings) (t : List Record) (w : Well s t) (xs : List ℕ) where
         rw (valid_named l u.0) (first_none (λ (b : ℕ). eqb b l) ads 0 none))
 
     -- .. and no other record
-    others : (i : ℕ) → ((l : ℕ) (j : ℕ) → find_link_of t l ≡ At j → used_elsewhere at (find_of ads l) (At j) ≡ false → j ≡ i) → all_of (λ l. alone_in l (link_addresses_of (set t i free_of))) (links_of ls) ≡ true
+    others : (i : ℕ) → ((l : ℕ) (j : ℕ) → find_link_of t l ≡ Some j → used_elsewhere at (find_of ads l) (Some j) ≡ false → j ≡ i) → all_of (λ l. alone_in l (link_addresses_of (set t i free_of))) (links_of ls) ≡ true
     unfolding alone_in
     others i here = every (λ l. alone_in l (link_addresses_of (set t i free_of))) refl (λ l e.
         let u = unused l e in
         let z = valid_named l u.0 in
         rw z (apart_links l (set t i free_of) (go l z u.1 (find_link_of t l) refl)))
       where
-        go : (l : ℕ) → eqb l 0 ≡ false → used_elsewhere at (find_of ads l) (find_link_of t l) ≡ false → (link : Found) → find_link_of t l ≡ link
+        go : (l : ℕ) → eqb l 0 ≡ false → used_elsewhere at (find_of ads l) (find_link_of t l) ≡ false → (link : Option ℕ) → find_link_of t l ≡ link
             → all_of (λ p. not (has_link l p)) (set t i free_of) ≡ true
-        go l z u Nothing e = all_set (λ (p : Record). not (has_link l p)) t i free_of (link_nowhere t l z e) (rw (free_without l z))
-        go l z u (At j) e =
+        go l z u None e = all_set (λ (p : Record). not (has_link l p)) t i free_of (link_nowhere t l z e) (rw (free_without l z))
+        go l z u (Some j) e =
             let same = here l j e (rw e at u) in
             only_here l z t i (apart_both (link_addresses_of t) ads w.apart).0 (rw same at (link_found t l j e).1)
 
@@ -181,46 +180,46 @@ module _ (s : Settings) (t : List Record) (w : Well s t) (xs : List ℕ) where
   nobody : role_answers s.role ≡ false → true ≡ false → count_of associates t ≡ 0
   nobody r b = wrong (sym b)
 
-  at_device : (i : ℕ) → May (At i) → eqb s.role ap ≡ true → find_of ads device ≡ At i → Well s (seated_of t i (turn_on (get_or t i free_of))).table
+  at_device : (i : ℕ) → May (Some i) → eqb s.role ap ≡ true → find_of ads device ≡ Some i → Well s (seated_of t i (turn_on (get_or t i free_of))).table
   unfolding linking_of turn_of linked_of used_elsewhere all_tails
   at_device i m role e =
       let p = get_or t i free_of in
-      let fits = find_leads s t w device m.own m.valid (At i) m.alone e in
-      let stands : links_stand s.own p.address ls ≡ true = rw (found_address t device i e) (stand (At i) m) in
+      let fits = find_leads s t w device m.own m.valid (Some i) m.alone e in
+      let stands : links_stand s.own p.address ls ≡ true = rw (found_address t device i e) (stand (Some i) m) in
       at_place s t w true nobody i (turn_on p) (linking_turns s p fits ls role stands true)
       (stored_apart t ads i (linked_of p ls) w.apart (both (alone_in device (links_of ls)) _ m.distinct).1
-      (others (At i) m i (λ l j g u. sym (eqb-true i j (not-false _ (or_left (is_found (find_of ads l)) _ u).1)))) (named (At i) m))
+      (others (Some i) m i (λ l j g u. sym (eqb-true i j (not-false _ (or_left (is_found (find_of ads l)) _ u).1)))) (named (Some i) m))
 
-  new_device : (i : ℕ) → May Nothing → eqb s.role ap ≡ true → find_of ads device ≡ Nothing → Well s (seated_of t i (turn_on (fresh_of device))).table
+  new_device : (i : ℕ) → May None → eqb s.role ap ≡ true → find_of ads device ≡ None → Well s (seated_of t i (turn_on (fresh_of device))).table
   unfolding linking_of turn_of linked_of fresh_of used_elsewhere all_tails alone_in
   new_device i m role e =
       let z = valid_named device m.valid in
-      let leads = find_leads s t w device m.own m.valid Nothing m.alone e in
+      let leads = find_leads s t w device m.own m.valid None m.alone e in
       let d = both (alone_in device (links_of ls)) _ m.distinct in
       let f : ℕ → Bool = λ l. alone_in l (device ∷ []) in
       let apart-new : all_of (apart device) (links_of ls) ≡ true = rw z at d.0 in
-      new_place s t w true nobody device i (turn_on (fresh_of device)) leads.0 (linking_turns s (fresh_of device) leads.2 ls role (stand Nothing m) true)
+      new_place s t w true nobody device i (turn_on (fresh_of device)) leads.0 (linking_turns s (fresh_of device) leads.2 ls role (stand None m) true)
       (stored_apart t ads i (linked_of (fresh_of device) ls) w.apart d.1
-      (others Nothing m i (λ l j g u. wrong (sym (or_left (is_found (find_of ads l)) _ u).1))) (named Nothing m))
+      (others None m i (λ l j g u. wrong (sym (or_left (is_found (find_of ads l)) _ u).1))) (named None m))
       (all_links f (set t i (linked_of (fresh_of device) ls))
       ∙ all_set (λ (p : Record). all_of f (links_of p.links)) t i (linked_of (fresh_of device) ls)
       (sym (all_links f t) ∙ apart_lone device (link_addresses_of t) leads.1) (apart_lone device (links_of ls) apart-new))
 
   pub linking :
-      may_link s t ads (find_of ads device) xs ≡ true → eqb s.role ap ≡ true → (at : Found) → find_of ads device ≡ at → (free : Found)
+      may_link s t ads (find_of ads device) xs ≡ true → eqb s.role ap ≡ true → (at : Option ℕ) → find_of ads device ≡ at → (free : Option ℕ)
       → Well s (turn_in t at free (turn_on (peer_of t at device)) (turn_on (peer_of t at device))).table
   unfolding newcomer_of stranger_of
-  linking h role Nothing e free = by_bool (starts_of (turn_on (fresh_of device))) (λ b. rw b (placed free)) (λ b. rw b w)
+  linking h role None e free = by_bool (starts_of (turn_on (fresh_of device))) (λ b. rw b (placed free)) (λ b. rw b w)
     where
-      placed : (free : Found) → Well s (on_found free (stranger_of t (turn_on (fresh_of device))) (λ i. seated_of t i (turn_on (fresh_of device)))).table
-      placed Nothing = w
-      placed (At i) = new_device i (may_of Nothing (rw e at h)) role e
-  linking h role (At i) e free = at_device i (may_of (At i) (rw e at h)) role e
+      placed : (free : Option ℕ) → Well s (on_found free (stranger_of t (turn_on (fresh_of device))) (λ i. seated_of t i (turn_on (fresh_of device)))).table
+      placed None = w
+      placed (Some i) = new_device i (may_of None (rw e at h)) role e
+  linking h role (Some i) e free = at_device i (may_of (Some i) (rw e at h)) role e
 
 -- ---- the rule, as what may be named and whether each link is allowed
 
 pub may_both :
-    (s : Settings) (t : List Record) (ads : List ℕ) (at : Found) (xs : List ℕ) (m : Bool)
+    (s : Settings) (t : List Record) (ads : List ℕ) (at : Option ℕ) (xs : List ℕ) (m : Bool)
     → m ≡ (count_fits xs && (valid_of (device_in xs) && (not (eqb (device_in xs) s.own) && (not (is_found (find_link_of t (device_in xs))) && distinct_of (device_in xs ∷ links_of (links_in xs))))))
     → may_link s t ads at xs ≡ (m && all_of (λ l. link_allowed s at (find_of ads l) (find_link_of t l) l) (given_in xs))
 unfolding may_link

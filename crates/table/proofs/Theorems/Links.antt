@@ -14,11 +14,13 @@ use lib.Dec.{eqb, ltb}
 use lib.ListN.{length, get_or, set, length-map}
 use lib.Seq.{get_or-set_other, get_or-set_same}
 use borrow.Author.Tests.{eq-eqb, eqb-true, eqb-false, not-true}
+use Rattle.std.proofs.Common.{Option, None, Some}
 use Rattle.octets.proofs.Branch.{by_bool, pick_both}
 use Rattle.octets.proofs.Lengths.{bytes_length}
 use Rattle.octets.specs.Frame.{length_of, longest}
 use Rattle.octets.specs.Links.{links_of}
 use Rattle.octets.specs.Sort.{class_by}
+use Rattle.octets.specs.declared.frame.Frame.{Frame}
 use Rattle.octets.specs.declared.sort.Sort.{Sort}
 use Rattle.octets.specs.declared.heard.Heard.{Heard}
 use Rattle.octets.specs.declared.links.Links.{Links}
@@ -30,8 +32,6 @@ use Rattle.peer.specs.Reply.{directed_of}
 use Rattle.peer.specs.Settings.{role_associates}
 use Rattle.peer.specs.Turn.{linking_of, towards_of, turn_of}
 use Rattle.peer.specs.declared.record.Record.{Record}
-use Rattle.peer.specs.declared.reply.Reply.TheVariants.{Send, Silent}
-use Rattle.peer.specs.declared.reply.Reply.{Reply}
 use Rattle.peer.specs.declared.settings.Settings.{Settings}
 use Rattle.table.specs.Answer.{count_answer, refused_of, said_length, settled_of, stepped_of}
 use Rattle.table.specs.Fit.{alone_in, apart, well_formed}
@@ -46,8 +46,7 @@ use Rattle.table.specs.Step.{step_of}
 use Rattle.table.specs.declared.rules.answer.Met.{Met}
 use Rattle.table.specs.declared.rules.event.Event.TheVariants as event
 use Rattle.table.specs.declared.rules.read.Reading.TheVariants.{From}
-use Rattle.table.specs.declared.rules.seat.Found.{Found}
-use Rattle.table.specs.declared.rules.seat.Found.TheVariants.{At, Nothing}
+use Rattle.std.specs.Prelude.{Option, Some, None}
 use Rattle.table.proofs.Order.NamedPeer.{read_named}
 use Rattle.table.proofs.Order.OwnRecord.{all_at, find_at}
 use Rattle.table.proofs.Passes.LinkLaws.{all_links, apart_both, link_found, link_place}
@@ -79,12 +78,12 @@ module _ (s : Settings) (t : List Record) (w : well_formed s t ≡ true) (a : �
   known : Facts s t
   known = facts s t w
 
-  by_device : (i : ℕ) → eqb (get_or t i free_of).address a ≡ true → find_of (addresses_of t) a ≡ At i
+  by_device : (i : ℕ) → eqb (get_or t i free_of).address a ≡ true → find_of (addresses_of t) a ≡ Some i
   by_device i e =
       let same = eqb-true (get_or t i free_of).address a e in
       rw same at (find_at t i known.distinct (named_inside t i a z same) (rw same z))
 
-  by_link : (i : ℕ) → has_link a (get_or t i free_of) ≡ true → find_link_of t a ≡ At i
+  by_link : (i : ℕ) → has_link a (get_or t i free_of) ≡ true → find_link_of t a ≡ Some i
   by_link i h = link_place a z t i (apart_both (link_addresses_of t) (addresses_of t) known.apart).0 h
 
   -- no device's address is a link
@@ -110,19 +109,19 @@ module _ (s : Settings) (t : List Record) (w : well_formed s t ≡ true) (a : �
       (λ f. not_both j i f (rw e at h))
       (λ f. one i j (sym (by_link i (rw e at h)) ∙ by_link j (rw f at k))))
     where
-      one : (i j : ℕ) → At i ≡ At j → i ≡ j
+      one : (i j : ℕ) → Some i ≡ Some j → i ≡ j
       one i j q = cc
 
   -- a frame from it goes to that record
-  pub seek_place : (i : ℕ) → leads (get_or t i free_of) a ≡ true → seek_of t (addresses_of t) a ≡ At i
+  pub seek_place : (i : ℕ) → leads (get_or t i free_of) a ≡ true → seek_of t (addresses_of t) a ≡ Some i
   unfolding seek_of
   seek_place i h = by_bool (eqb (get_or t i free_of).address a)
       (λ e. go (find_link_of t a) refl e)
       (λ e. rw (by_link i (rw e at h)))
     where
-      go : (f : Found) → find_link_of t a ≡ f → eqb (get_or t i free_of).address a ≡ true → on_found (find_link_of t a) (find_of (addresses_of t) a) (λ j. At j) ≡ At i
-      go Nothing q e = rw q (by_device i e)
-      go (At j) q e = not_both i j e (link_found t a j q).1
+      go : (f : Option ℕ) → find_link_of t a ≡ f → eqb (get_or t i free_of).address a ≡ true → on_found (find_link_of t a) (find_of (addresses_of t) a) (λ j. Some j) ≡ Some i
+      go None q e = rw q (by_device i e)
+      go (Some j) q e = not_both i j e (link_found t a j q).1
 
 -- ---- frames from two addresses of a device
 
@@ -132,17 +131,17 @@ pub record Alike (b : ℕ) (m n : Met) : Type 0 where
   pub answer : n.answer ≡ m.answer
   pub reply : n.reply ≡ directed_of b m.reply
 
-said_alike : (b n : ℕ) (r : Reply) → said_length (directed_of b r) n ≡ said_length r n
+said_alike : (b n : ℕ) (r : Option Frame) → said_length (directed_of b r) n ≡ said_length r n
 unfolding length_of
-said_alike b n Silent = refl
-said_alike b n (Send f) =
+said_alike b n None = refl
+said_alike b n (Some f) =
     rw (bytes_length (record { subtype = f.subtype; address1 = b; address2 = f.address2; address3 = f.address3; body = f.body }), bytes_length f)
 
 -- as many octets are written
 pub alike_stepped : (b : ℕ) (m u : Met) (n : ℕ) → Alike b m u → stepped_of u n ≡ stepped_of m n
 unfolding stepped_of
 alike_stepped b m u n k =
-    let long : said_length u.reply n ≡ said_length m.reply n = ap (λ (r : Reply). said_length r n) k.reply ∙ said_alike b n m.reply in
+    let long : said_length u.reply n ≡ said_length m.reply n = ap (λ (r : Option Frame). said_length r n) k.reply ∙ said_alike b n m.reply in
     λ j. record { table = k.table j; answer = count_answer (k.answer j) (long j) }
 
 module _ (s : Settings) (t : List Record) (i a b : ℕ) (la : leads (get_or t i free_of) a ≡ true) (lb : leads (get_or t i free_of) b ≡ true) (group : Bool) (k : Sort) (h : Heard) (xs ys : List ℕ) (rx : read_of s.own (role_associates s.role) xs ≡ From a group k h) (ry : read_of s.own (role_associates s.role) ys ≡ From b group k h) (n : ℕ) where
@@ -216,11 +215,11 @@ module _ (s : Settings) (t : List Record) (xs : List ℕ) where
           let inside = named_inside t j (get_or t j free_of).address here refl in
           rw (e, get_or-set_same t j q free_of inside) ((k here).0, λ d. clash (k here).1 d)
 
-  turned : (at free : Found) → find_of (addresses_of t) device ≡ at → find_of (addresses_of t) 0 ≡ free → Linked device t (turn_in t at free (linking_of s (peer_of t at device) (links_in xs)) (linking_of s (peer_of t at device) (links_in xs))).table
+  turned : (at free : Option ℕ) → find_of (addresses_of t) device ≡ at → find_of (addresses_of t) 0 ≡ free → Linked device t (turn_in t at free (linking_of s (peer_of t at device) (links_in xs)) (linking_of s (peer_of t at device) (links_in xs))).table
   unfolding newcomer_of stranger_of seated_of linking_of turn_of
-  turned (At j) free e f = stored j (withLinks (get_or t j free_of) (links_in xs)) (λ z. (relinked (get_or t j free_of) (links_in xs), eq-eqb _ _ (found_address t device j e)))
-  turned Nothing Nothing e f = pick_both (λ (m : Met). Linked device t m.table) (starts_of (linking_of s (fresh_of device) (links_in xs))) stays stays
-  turned Nothing (At j) e f =
+  turned (Some j) free e f = stored j (withLinks (get_or t j free_of) (links_in xs)) (λ z. (relinked (get_or t j free_of) (links_in xs), eq-eqb _ _ (found_address t device j e)))
+  turned None None e f = pick_both (λ (m : Met). Linked device t m.table) (starts_of (linking_of s (fresh_of device) (links_in xs))) stays stays
+  turned None (Some j) e f =
       pick_both (λ (m : Met). Linked device t m.table) (starts_of (linking_of s (fresh_of device) (links_in xs)))
       (stored j (withLinks (fresh_of device) (links_in xs)) (λ z. clash (eq-eqb _ _ (found_address t 0 j f)) z)) stays
 

@@ -38,8 +38,7 @@ use Rattle.table.specs.declared.rules.answer.Met.{Met}
 use Rattle.table.specs.declared.rules.read.Reading.{Reading}
 use Rattle.table.specs.declared.rules.read.Reading.TheVariants.{Admitted, Discarded, From, Refused}
 use Rattle.table.specs.declared.rules.seat.Change.{Change}
-use Rattle.table.specs.declared.rules.seat.Found.{Found}
-use Rattle.table.specs.declared.rules.seat.Found.TheVariants.{At, Nothing}
+use Rattle.std.specs.Prelude.{Option, Some, None}
 use Rattle.table.proofs.Octets.RecordTrip.{example_long, example_well, linked_device}
 use Rattle.table.proofs.Passes.Lists.{get_map, map_same, map_set}
 use Rattle.table.proofs.Theorems.Well.{Well, found_address, free_links, well_of}
@@ -58,12 +57,12 @@ module _ (s : Settings) (t : List Record) where
   seated i turn e = stored turn.sole i turn.peer ∙ rw (e ∙ sym (get_map (λ (p : Record). p.links) t i free_of)) (set-get_or (links_over t) i unlinked)
 
   -- What holds where all links stay, and of a newcomer at the lowest free place, holds of whatever a frame or a primitive makes of the table.
-  module _ (Q : Met → Type 0) (stays : (m : Met) → Stay m → Q m) (fills : (i : ℕ) (turn : Turn) → find_of (addresses_of t) 0 ≡ At i → turn.peer.links ≡ unlinked → Q (seated_of t i turn)) where
-    turned : (at free : Found) (a : ℕ) (turn full : Turn) → find_of (addresses_of t) 0 ≡ free → turn.peer.links ≡ (peer_of t at a).links → Q (turn_in t at free turn full)
+  module _ (Q : Met → Type 0) (stays : (m : Met) → Stay m → Q m) (fills : (i : ℕ) (turn : Turn) → find_of (addresses_of t) 0 ≡ Some i → turn.peer.links ≡ unlinked → Q (seated_of t i turn)) where
+    turned : (at free : Option ℕ) (a : ℕ) (turn full : Turn) → find_of (addresses_of t) 0 ≡ free → turn.peer.links ≡ (peer_of t at a).links → Q (turn_in t at free turn full)
     unfolding newcomer_of stranger_of fresh_of
-    turned (At i) free a turn full f e = stays _ (seated i turn e)
-    turned Nothing Nothing a turn full f e = pick_both Q (starts_of turn) (stays _ refl) (stays _ refl)
-    turned Nothing (At i) a turn full f e = pick_both Q (starts_of turn) (fills i turn f e) (stays _ refl)
+    turned (Some i) free a turn full f e = stays _ (seated i turn e)
+    turned None None a turn full f e = pick_both Q (starts_of turn) (stays _ refl) (stays _ refl)
+    turned None (Some i) a turn full f e = pick_both Q (starts_of turn) (fills i turn f e) (stays _ refl)
 
     pub heard_stay : (r : Reading) → Q (heard_at s t (addresses_of t) r)
     unfolding refused_of settled_of heard_from towards_of
@@ -86,7 +85,7 @@ module _ (s : Settings) (t : List Record) where
 
 -- In a table that is well formed a free place has no links, and a newcomer has none.
 module _ (s : Settings) (t : List Record) (w : Well s t) where
-  fills : (i : ℕ) (turn : Turn) → find_of (addresses_of t) 0 ≡ At i → turn.peer.links ≡ unlinked → Stay s t (seated_of t i turn)
+  fills : (i : ℕ) (turn : Turn) → find_of (addresses_of t) 0 ≡ Some i → turn.peer.links ≡ unlinked → Stay s t (seated_of t i turn)
   fills i turn f e = seated s t i turn (e ∙ sym (free_links s t w i f))
 
   pub received_links : (xs : List ℕ) (n : ℕ) → Stay s t (received_of s t xs n)
@@ -110,13 +109,13 @@ module _ (s : Settings) (t : List Record) where
       (λ h. let g : x ≡ get_or l i unlinked = sym (get_or-set_same l i x unlinked (ltb-true i (length l) h)) ∙ ap (λ (k : List Links). get_or k i unlinked) (sym e) ∙ get_or-set_other l j i y unlinked n in rw g (set-get_or l i unlinked))
       (λ h. set_out l i x (ltb-false i (length l) h))
 
-  fills_unnamed : (i : ℕ) (turn : Turn) → find_of (addresses_of t) 0 ≡ At i → turn.peer.links ≡ unlinked → Unnamed (seated_of t i turn)
+  fills_unnamed : (i : ℕ) (turn : Turn) → find_of (addresses_of t) 0 ≡ Some i → turn.peer.links ≡ unlinked → Unnamed (seated_of t i turn)
   unfolding seated_of met_of new_at
   fills_unnamed i turn f e c m n = by_place c.place n (ap (λ (x : Met). x.table) m)
     where
-      by_place : (at : Found) → new_at t at ≡ false → on_found at t (λ j. stored_in t c.sole j c.peer) ≡ (seated_of t i turn).table → Stay s t (seated_of t i turn)
-      by_place Nothing n k = ap links_over (sym k)
-      by_place (At j) n k =
+      by_place : (at : Option ℕ) → new_at t at ≡ false → on_found at t (λ j. stored_in t c.sole j c.peer) ≡ (seated_of t i turn).table → Stay s t (seated_of t i turn)
+      by_place None n k = ap links_over (sym k)
+      by_place (Some j) n k =
           let new : eqb (get_or t i free_of).address 0 ≡ true = eq-eqb _ _ (found_address t 0 i f) in
           stored s t turn.sole i turn.peer
           ∙ apart (links_over t) i j turn.peer.links c.peer.links (λ q. clash new (rw q n)) (sym (stored s t c.sole j c.peer) ∙ ap links_over k ∙ stored s t turn.sole i turn.peer)

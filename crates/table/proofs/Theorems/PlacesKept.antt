@@ -38,8 +38,8 @@ use Rattle.table.specs.Refusals.{unless}
 use Rattle.table.specs.Seat.{aid_of, newcomer_of, peer_of, seated_of, starts_of, stranger_of, turn_in}
 use Rattle.table.specs.Step.{step_of}
 use Rattle.table.specs.declared.rules.answer.Met.{Met}
-use Rattle.table.specs.declared.rules.seat.Found.TheVariants.{At, Nothing}
-use Rattle.table.specs.declared.rules.seat.Found.{Found}
+use Rattle.std.specs.Prelude.{Option}
+use Rattle.std.specs.declared.option.Option.TheVariants as option
 use Rattle.table.specs.declared.rules.read.Reading.TheVariants.{Admitted, Discarded, From, Refused}
 use Rattle.table.specs.declared.rules.read.Reading.{Reading}
 use Rattle.table.specs.declared.rules.event.Event.TheVariants as event
@@ -75,7 +75,7 @@ module _ (t : List Record) where
       rw (seated_addresses j turn, e ∙ sym (get_map address_of t j free_of), set-get_or (addresses_of t) j 0)
 
   -- in a place found free, which no peer held
-  new_place : (j : ℕ) (turn : Turn) → find_of (addresses_of t) 0 ≡ At j → Stays t (seated_of t j turn)
+  new_place : (j : ℕ) (turn : Turn) → find_of (addresses_of t) 0 ≡ option.Some j → Stays t (seated_of t j turn)
   new_place j turn e i z = rw (seated_addresses j turn) (get_or-set_other (addresses_of t) j i turn.peer.address 0 other)
     where
       empty : eqb (get_or (addresses_of t) j 0) 0 ≡ true
@@ -85,12 +85,12 @@ module _ (t : List Record) where
       other q = clash empty (rw q at z)
 
   in_turn :
-      (a : ℕ) (at free : Found) (turn full : Turn) → find_of (addresses_of t) 0 ≡ free → turn.peer.address ≡ (peer_of t at a).address
+      (a : ℕ) (at free : Option ℕ) (turn full : Turn) → find_of (addresses_of t) 0 ≡ free → turn.peer.address ≡ (peer_of t at a).address
       → Stays t (turn_in t at free turn full)
   unfolding newcomer_of stranger_of
-  in_turn a Nothing Nothing turn full f e = pick_both (Stays t) (starts_of turn) (λ i z. refl) (λ i z. refl)
-  in_turn a Nothing (At j) turn full f e = pick_both (Stays t) (starts_of turn) (new_place j turn f) (λ i z. refl)
-  in_turn a (At j) free turn full f e = at_place j turn e
+  in_turn a option.None option.None turn full f e = pick_both (Stays t) (starts_of turn) (λ i z. refl) (λ i z. refl)
+  in_turn a option.None (option.Some j) turn full f e = pick_both (Stays t) (starts_of turn) (new_place j turn f) (λ i z. refl)
+  in_turn a (option.Some j) free turn full f e = at_place j turn e
 
   module _ (s : Settings) where
     heard : (r : Reading) → Stays t (heard_at s t (addresses_of t) r)

@@ -10,6 +10,7 @@ use native.Mathlib.Omega.{arith}
 use lib.Dec.{eqb, ltb}
 use lib.ListN.{length, get_or, take}
 use borrow.Author.Tests.{eqb-true, ltb-true, not-false, not-true}
+use Rattle.std.proofs.Common.{Option, None, Some}
 use Rattle.octets.proofs.Branch.{by_bool, pick_both, pick_by}
 use Rattle.octets.specs.Address.{valid_of, group_of}
 use Rattle.octets.specs.Class.{class_in, classless, class_of, number_of}
@@ -23,6 +24,7 @@ use Rattle.octets.specs.declared.heard.Heard.{Heard}
 use Rattle.octets.specs.declared.shape.Shape.{Shape}
 use Rattle.octets.specs.declared.shape.Shape.TheVariants.{Misfit, Classless, Bare, Full}
 use Rattle.octets.proofs.Sorts.{sort_class}
+use Rattle.octets.specs.declared.frame.Frame.{Frame}
 use Rattle.peer.proofs.AskSaid.{ask_said}
 use Rattle.peer.proofs.Classes.{same_classless}
 use Rattle.peer.proofs.Fits.{Fits, both, fits_of, or_left, wrong}
@@ -43,8 +45,6 @@ use Rattle.peer.specs.Turn.{towards_of}
 use Rattle.peer.specs.declared.query.Query.TheVariants as query
 use Rattle.peer.specs.declared.record.Record.{Record}
 use Rattle.peer.specs.declared.refuse.Others.{Others}
-use Rattle.peer.specs.declared.reply.Reply.{Reply}
-use Rattle.peer.specs.declared.reply.Reply.TheVariants.{Silent, Send}
 use Rattle.peer.specs.declared.settings.Settings.{Settings}
 use Rattle.peer.specs.declared.turn.Turn.{Turn}
 use Rattle.table.specs.Answer.{refused_of, settled_of}
@@ -62,8 +62,7 @@ use Rattle.table.specs.Written.{reply_bytes}
 use Rattle.table.specs.declared.rules.answer.Met.{Met}
 use Rattle.table.specs.declared.rules.event.Event.{Event}
 use Rattle.table.specs.declared.rules.event.Event.TheVariants as event
-use Rattle.table.specs.declared.rules.seat.Found.{Found}
-use Rattle.table.specs.declared.rules.seat.Found.TheVariants.{At, Nothing}
+use Rattle.std.specs.Prelude.{Option, Some, None}
 use Rattle.table.proofs.Passes.LinkLaws.{unfound}
 use Rattle.table.proofs.Theorems.Well.{Well, alone_found, find_leads, leads_fits, seek_leads, well_of}
 use Rattle.table.proofs.Theorems.WrittenCount.{written_count}
@@ -78,9 +77,9 @@ full_classed xs e = by_bool (ltb (length xs) 10 || ltb 4096 (length xs))
     (λ k. k))
 
 -- an AID of the table has 14 bits
-aid_small : (at : Found) → aid_of at < 2 ^ 14
-aid_small Nothing = omega arith
-aid_small (At i) = pick_by (λ (a : ℕ). a < 2 ^ 14) (ltb i 32) (λ e. let l = ltb-true i 32 e in omega arith) (λ e. omega arith)
+aid_small : (at : Option ℕ) → aid_of at < 2 ^ 14
+aid_small None = omega arith
+aid_small (Some i) = pick_by (λ (a : ℕ). a < 2 ^ 14) (ltb i 32) (λ e. let l = ltb-true i 32 e in omega arith) (λ e. omega arith)
 
 module _ (s : Settings) where
   -- what an event is met with, as a reply
@@ -123,7 +122,7 @@ module _ (s : Settings) where
       abbrev turn : ℕ → Record → Turn
       turn a p = towards_of a (hear_of s p (class_in on xs) group (heard_of xs))
 
-      stranger_said : (a : ℕ) (free : Found) → Fits s (fresh_of a) → Said a (replied_says s 1 query.None (number_of (class_in on xs)) (heard_of xs)) (newcomer_of t free (turn a (fresh_of a)) (towards_of a (full_of s (fresh_of a))))
+      stranger_said : (a : ℕ) (free : Option ℕ) → Fits s (fresh_of a) → Said a (replied_says s 1 query.None (number_of (class_in on xs)) (heard_of xs)) (newcomer_of t free (turn a (fresh_of a)) (towards_of a (full_of s (fresh_of a))))
       unfolding newcomer_of stranger_of seated_of starts_of fresh_of towards_of no_links
       stranger_said a free f =
           pick_by (Said a (replied_says s 1 query.None (number_of (class_in on xs)) (heard_of xs))) (starts_of (turn a (fresh_of a)))
@@ -140,16 +139,16 @@ module _ (s : Settings) where
           begun : starts_of (turn a (fresh_of a)) ≡ true → not (eqb (under_way (hear_of s (fresh_of a) (class_in on xs) group (heard_of xs)).peer.exchange) 0) ≡ true
           begun b = sym (or-false (not (eqb (under_way (hear_of s (fresh_of a) (class_in on xs) group (heard_of xs)).peer.exchange) 0))) ∙ (rw (hear_links s (fresh_of a) (class_in on xs) group (heard_of xs)).1 at b)
 
-          placed : (free : Found) → eqb (under_way (hear_of s (fresh_of a) (class_in on xs) group (heard_of xs)).peer.exchange) 0 ≡ false → Said a (replied_says s 1 query.None (number_of (class_in on xs)) (heard_of xs)) (on_found free (stranger_of t (towards_of a (full_of s (fresh_of a)))) (λ i. seated_of t i (turn a (fresh_of a))))
-          placed Nothing b = towards_speaks s a a (replied_says s 1 query.None (number_of (class_in on xs)) (heard_of xs)) (full_of s (fresh_of a)).reply (λ n. refl) low (full_said s w.settings (fresh_of a) f.valid f.low (query_soon s (fresh_of a) w.settings f) refl refl on xs k group b)
-          placed (At i) b = here
+          placed : (free : Option ℕ) → eqb (under_way (hear_of s (fresh_of a) (class_in on xs) group (heard_of xs)).peer.exchange) 0 ≡ false → Said a (replied_says s 1 query.None (number_of (class_in on xs)) (heard_of xs)) (on_found free (stranger_of t (towards_of a (full_of s (fresh_of a)))) (λ i. seated_of t i (turn a (fresh_of a))))
+          placed None b = towards_speaks s a a (replied_says s 1 query.None (number_of (class_in on xs)) (heard_of xs)) (full_of s (fresh_of a)).reply (λ n. refl) low (full_said s w.settings (fresh_of a) f.valid f.low (query_soon s (fresh_of a) w.settings f) refl refl on xs k group b)
+          placed (Some i) b = here
 
-      from_said : (a : ℕ) → not (eqb a s.own) ≡ true → valid_of a ≡ true → (at free : Found) → seek_of t (addresses_of t) a ≡ at → Said a (replied_says s (peer_of t at a).state (peer_of t at a).query (number_of (class_in on xs)) (heard_of xs)) (turn_in t at free (turn a (peer_of t at a)) (towards_of a (full_of s (peer_of t at a))))
+      from_said : (a : ℕ) → not (eqb a s.own) ≡ true → valid_of a ≡ true → (at free : Option ℕ) → seek_of t (addresses_of t) a ≡ at → Said a (replied_says s (peer_of t at a).state (peer_of t at a).query (number_of (class_in on xs)) (heard_of xs)) (turn_in t at free (turn a (peer_of t at a)) (towards_of a (full_of s (peer_of t at a))))
       unfolding seated_of fresh_of towards_of
-      from_said a own v Nothing free e = stranger_said a free (fresh_fits s a own v)
-      from_said a own v (At i) free e =
-          let f = seek_leads s t w a own v (At i) e in
-          towards_speaks s (get_or t i free_of).address a (replied_says s (get_or t i free_of).state (get_or t i free_of).query (number_of (class_in on xs)) (heard_of xs)) (hear_of s (get_or t i free_of) (class_in on xs) group (heard_of xs)).reply (alone_found s t w a (At i) e f) (valid_below a v) (turned (get_or t i free_of) f)
+      from_said a own v None free e = stranger_said a free (fresh_fits s a own v)
+      from_said a own v (Some i) free e =
+          let f = seek_leads s t w a own v (Some i) e in
+          towards_speaks s (get_or t i free_of).address a (replied_says s (get_or t i free_of).state (get_or t i free_of).query (number_of (class_in on xs)) (heard_of xs)) (hear_of s (get_or t i free_of) (class_in on xs) group (heard_of xs)).reply (alone_found s t w a (Some i) e f) (valid_below a v) (turned (get_or t i free_of) f)
 
     read_said : (xs : List ℕ) → all_octets xs ≡ true → (shape : Shape) → shape_of xs ≡ shape → Said (field 6 10 xs) (says_in s t event.Frame xs) (heard_at s t (addresses_of t) (read_as shape s.own on xs))
     unfolding refused_of settled_of read_bare read_full read_from heard_from
@@ -178,11 +177,11 @@ module _ (s : Settings) where
     unless_said a h n m k = pick_by (Said a h) (eqb n 0) k (λ e. tt)
 
     -- a turn that no want of a place changes
-    turn_said : (a : ℕ) (h : Heard) (at free : Found) (turn : Turn) → Speaks s a h turn.reply → Said a h (turn_in t at free turn turn)
+    turn_said : (a : ℕ) (h : Heard) (at free : Option ℕ) (turn : Turn) → Speaks s a h turn.reply → Said a h (turn_in t at free turn turn)
     unfolding newcomer_of stranger_of seated_of
-    turn_said a h Nothing Nothing turn k = pick_both (Said a h) (starts_of turn) k k
-    turn_said a h Nothing (At i) turn k = pick_both (Said a h) (starts_of turn) k k
-    turn_said a h (At i) free turn k = k
+    turn_said a h None None turn k = pick_both (Said a h) (starts_of turn) k k
+    turn_said a h None (Some i) turn k = pick_both (Said a h) (starts_of turn) k k
+    turn_said a h (Some i) free turn k = k
 
     asked_said : (q a c : ℕ) (xs : List ℕ) → c < 2 ^ 16 → Said (spoken_to t (event.Ask q a c) xs) (says_in s t (event.Ask q a c) xs) (asked_at s t (addresses_of t) q a c)
     unfolding asked_at may_ask towards_of
@@ -219,9 +218,9 @@ module _ (s : Settings) (t : List Record) (h : length t ≡ 32) where
       (λ b. rw (e, b) (asked_said s t (well_of s t (not-false _ b) h) q a c xs short)))
 
   -- what is replied is what is written
-  spoken : (a : ℕ) (v : Heard) (r : Reply) → Speaks s a v r → 0 < length (reply_bytes r) → ReadsTo s a v (reply_bytes r)
-  spoken a v Silent k l = absurd (omega arith)
-  spoken a v (Send f) k l = k.1
+  spoken : (a : ℕ) (v : Heard) (r : Option Frame) → Speaks s a v r → 0 < length (reply_bytes r) → ReadsTo s a v (reply_bytes r)
+  spoken a v None k l = absurd (omega arith)
+  spoken a v (Some f) k l = k.1
 
   pub step_said :
       (e : Event) (xs l : List ℕ) → Spoken e xs → 0 < (step_of s t e xs (length l)).answer.written

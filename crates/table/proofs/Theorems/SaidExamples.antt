@@ -1,6 +1,7 @@
 -- What `step_said` says of four steps, computed; and that the AID, the state and the associated AP of which it speaks are those of the records'
 -- places (`aid_place`, `peer_place`, `associated_place`).
 -- Assumes nothing.
+use Rattle.std.specs.Prelude.{Some, None}
 use Prim.Native.Nat.{ℕ, zero, suc, ◌+◌, ◌<◌, ◌≤◌}
 use mathlib.Core.Path.{◌≡◌, refl}
 use mathlib.Core.Bool.{true, false}
@@ -18,7 +19,6 @@ use Rattle.octets.specs.Field.{octets}
 use Rattle.octets.specs.Frame.{aid_field, body_of, bytes_of, capability_of, comeback_element, head_of, length_of, written_of}
 use Rattle.octets.specs.Heard.{heard_of}
 use Rattle.octets.specs.Shape.{is_bare, least_management, least_of, shape_of}
-use Rattle.octets.specs.declared.element.Comeback.TheVariants.{Absent, Given}
 use Rattle.octets.specs.declared.heard.Heard.TheVariants as heard
 use Rattle.octets.specs.declared.heard.Kind.TheVariants.{Association, Authentication}
 use Rattle.octets.specs.Links.{no_links, unlinked}
@@ -53,7 +53,7 @@ use Rattle.table.specs.Receive.{heard_from, received_of}
 use Rattle.table.specs.Refusals.{first_of, unless}
 use Rattle.table.specs.Seat.{aid_of, newcomer_of, peer_of, seated_of, starts_of, stranger_of}
 use Rattle.table.specs.declared.rules.event.Event.TheVariants as event
-use Rattle.table.specs.declared.rules.seat.Found.TheVariants.{At}
+use Rattle.std.specs.declared.option.Option.TheVariants as option
 use Rattle.table.proofs.Order.OwnRecord.{find_at, wf_distinct}
 use Rattle.table.proofs.Theorems.Forged.{request, with}
 use Rattle.table.proofs.Theorems.SaidBack.{step_said}
@@ -72,7 +72,7 @@ two =
 
 -- primitive 7, status 0
 accepted :
-    ReadsTo home 0x0e (heard.Response Association 0 2 Absent)
+    ReadsTo home 0x0e (heard.Response Association 0 2 None)
     (0x10 ∷ 0 ∷ 0 ∷ 0 ∷ 0x0e ∷ 0 ∷ 0 ∷ 0 ∷ 0 ∷ 0 ∷ 0x0a ∷ 0 ∷ 0 ∷ 0 ∷ 0 ∷ 0 ∷ 0x0a ∷ 0 ∷ 0 ∷ 0 ∷ 0 ∷ 0 ∷ 0 ∷ 0 ∷
     0x01 ∷ 0 ∷ 0 ∷ 0 ∷ 2 ∷ 0xc0 ∷ [])
 unfolding valid_of octets capability_of aid_field head_of body_of bytes_of written_of length_of settings_fit query_times_fit network_fits role_answers role_asks role_associates time_fits is_joined associates fresh_of is_free
@@ -98,7 +98,7 @@ kept_out =
 
 -- 02, K5: an association request in the name of 04, in State 4, with edition 2 and protection
 put_off :
-    ReadsTo site 0x04 (heard.Response Association 30 0 (Given 1000))
+    ReadsTo site 0x04 (heard.Response Association 30 0 (Some 1000))
     (0x10 ∷ 0 ∷ 0 ∷ 0 ∷ 0x04 ∷ 0 ∷ 0 ∷ 0 ∷ 0 ∷ 0 ∷ 0x02 ∷ 0 ∷ 0 ∷ 0 ∷ 0 ∷ 0 ∷ 0x02 ∷ 0 ∷ 0 ∷ 0 ∷ 0 ∷ 0 ∷ 0 ∷ 0 ∷
     0x01 ∷ 0 ∷ 30 ∷ 0 ∷ 0 ∷ 0 ∷ 56 ∷ 5 ∷ 3 ∷ 0xe8 ∷ 0x03 ∷ 0 ∷ 0 ∷ [])
 unfolding valid_of group_of octets sort_of is_listed listed_class class_in class_of is_public_action is_response broken_of heard_of least_management is_bare least_of shape_of capability_of comeback_element aid_field
@@ -148,7 +148,7 @@ answered = step_said met asking refl (event.Ask 2 0x0c 0) [] (replicate 37 0) (o
 -- ---- the places
 
 module _ (s : Settings) (t : List Record) (h : well_formed s t ≡ true) (l : length t ≡ 32) (i : ℕ) (below : i < 32) (some : eqb (get_or t i free_of).address 0 ≡ false) where
-  found_place : find_of (addresses_of t) (get_or t i free_of).address ≡ At i
+  found_place : find_of (addresses_of t) (get_or t i free_of).address ≡ option.Some i
   found_place = find_at t i (wf_distinct s t h) (rw l below) some
 
   -- "An AP gives AID = place + 1"

@@ -26,8 +26,7 @@ use Rattle.peer.specs.declared.turn.Turn.{Turn}
 use Rattle.table.specs.Fit.{alone_in, apart, distinct_of, links_apart}
 use Rattle.table.specs.Places.{addresses_of, all_of, count_of, find_of, link_addresses_of, on_found}
 use Rattle.table.specs.Seat.{newcomer_of, peer_of, seated_of, starts_of, stranger_of, turn_in}
-use Rattle.table.specs.declared.rules.seat.Found.{Found}
-use Rattle.table.specs.declared.rules.seat.Found.TheVariants.{At, Nothing}
+use Rattle.std.specs.Prelude.{Option, Some, None}
 use Rattle.table.proofs.Passes.Lists.{all_map, all_set, count_map, count_none, count_set_low, count_set_one, distinct_set, get_map, map_same, map_set}
 use Rattle.table.proofs.Passes.LinkStores.{apart_lone, emptied_all, emptied_apart, links_same, named_apart, set_again, set_links_map, zero_lone}
 use Rattle.table.proofs.Theorems.Well.{Leads, Well, free_links}
@@ -137,14 +136,14 @@ module _ (s : Settings) (t : List Record) (w : Well s t) (busy : Bool) (none : r
 
   -- with the links that stand there
   pub in_turn :
-      (a : ℕ) (at free : Found) (turn full : Turn) → Leads s t w a at → find_of (addresses_of t) 0 ≡ free
+      (a : ℕ) (at free : Option ℕ) (turn full : Turn) → Leads s t w a at → find_of (addresses_of t) 0 ≡ free
       → Turns s busy (peer_of t at a) turn → turn.peer.links ≡ (peer_of t at a).links → Well s (turn_in t at free turn full).table
   unfolding newcomer_of stranger_of fresh_of
-  in_turn a Nothing free turn full l e k same = by_bool (starts_of turn) (λ b. rw b (placed free e)) (λ b. rw b w)
+  in_turn a None free turn full l e k same = by_bool (starts_of turn) (λ b. rw b (placed free e)) (λ b. rw b w)
     where
-      placed : (free : Found) → find_of (addresses_of t) 0 ≡ free → Well s (on_found free (stranger_of t full) (λ i. seated_of t i turn)).table
-      placed Nothing e = w
-      placed (At i) e =
+      placed : (free : Option ℕ) → find_of (addresses_of t) 0 ≡ free → Well s (on_found free (stranger_of t full) (λ i. seated_of t i turn)).table
+      placed None e = w
+      placed (Some i) e =
           let kept = links_same t i turn.peer (same ∙ sym (free_links s t w i e)) in
           new_place a i turn l.0 k (rw kept w.apart) (rw kept (apart_lone a (link_addresses_of t) l.1))
-  in_turn a (At i) free turn full l e k same = at_place i turn k (rw (links_same t i turn.peer same) w.apart)
+  in_turn a (Some i) free turn full l e k same = at_place i turn k (rw (links_same t i turn.peer same) w.apart)

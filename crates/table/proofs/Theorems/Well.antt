@@ -23,8 +23,7 @@ use Rattle.peer.specs.declared.settings.Settings.{Settings}
 use Rattle.table.specs.Fit.{apart, crowd_of, distinct_of, links_apart, sparse_of, well_formed}
 use Rattle.table.specs.Places.{addresses_of, all_of, count_of, find_link_of, find_of, link_addresses_of, on_found, seek_of, some_of}
 use Rattle.table.specs.Seat.{peer_of}
-use Rattle.table.specs.declared.rules.seat.Found.{Found}
-use Rattle.table.specs.declared.rules.seat.Found.TheVariants.{At, Nothing}
+use Rattle.std.specs.Prelude.{Option, Some, None}
 use Rattle.table.proofs.Passes.Lists.{all_get, first_at, first_none, get_map, swap}
 use Rattle.table.proofs.Passes.LinkLaws.{link_found, no_link}
 use Rattle.table.proofs.Walks.LinkLists.{free_unlinked}
@@ -70,7 +69,7 @@ free_fits s = refl
 -- ---- where an address leads in a well-formed table
 
 -- the record at a place found by its address has it
-pub found_address : (t : List Record) (a i : ℕ) → find_of (addresses_of t) a ≡ At i → (get_or t i free_of).address ≡ a
+pub found_address : (t : List Record) (a i : ℕ) → find_of (addresses_of t) a ≡ Some i → (get_or t i free_of).address ≡ a
 found_address t a i e =
     let found = first_at (λ (b : ℕ). eqb b a) 0 (addresses_of t) 0 i e in
     let at_i : i - 0 ≡ i = omega arith in
@@ -78,7 +77,7 @@ found_address t a i e =
     sym (get_map (λ (p : Record). p.address) t i free_of) ∙ eqb-true _ a b
 
 -- a record that a link leads to has links
-some_links : (t : List Record) (a i : ℕ) → find_link_of t a ≡ At i → no_links (get_or t i free_of).links ≡ false
+some_links : (t : List Record) (a i : ℕ) → find_link_of t a ≡ Some i → no_links (get_or t i free_of).links ≡ false
 unfolding some_of
 some_links t a i e =
     let h = link_found t a i e in
@@ -90,13 +89,13 @@ module _ (s : Settings) (t : List Record) (w : Well s t) where
   pub place_fits_lem : (i : ℕ) → place_fits s (get_or t i free_of) ≡ true
   place_fits_lem i = all_get (place_fits s) t i free_of w.places (free_fits s)
 
-  pub free_links : (i : ℕ) → find_of (addresses_of t) 0 ≡ At i → (get_or t i free_of).links ≡ unlinked
+  pub free_links : (i : ℕ) → find_of (addresses_of t) 0 ≡ Some i → (get_or t i free_of).links ≡ unlinked
   free_links i e =
       let z : eqb (get_or t i free_of).address 0 ≡ true = rw (found_address t 0 i e) in
       free_unlinked (get_or t i free_of) (free_address s (get_or t i free_of) (place_fits_lem i) ∙ z)
 
   -- a record with a link is not free
-  pub linked_fits : (a i : ℕ) → find_link_of t a ≡ At i → Fits s (get_or t i free_of)
+  pub linked_fits : (a i : ℕ) → find_link_of t a ≡ Some i → Fits s (get_or t i free_of)
   unfolding place_fits some_of
   linked_fits a i e =
       let h = link_found t a i e in
@@ -105,36 +104,36 @@ module _ (s : Settings) (t : List Record) (w : Well s t) where
       (λ f. fits_of s (get_or t i free_of) (rw f at (place_fits_lem i)))
 
   -- to a record that fits; or nowhere, and then it may be a new record's
-  abbrev pub Leads : ℕ → Found → Type 0
-  Leads a Nothing = (all_of (apart a) (addresses_of t) ≡ true) × (all_of (apart a) (link_addresses_of t) ≡ true) × Fits s (fresh_of a)
-  Leads a (At i) = Fits s (get_or t i free_of)
+  abbrev pub Leads : ℕ → Option ℕ → Type 0
+  Leads a None = (all_of (apart a) (addresses_of t) ≡ true) × (all_of (apart a) (link_addresses_of t) ≡ true) × Fits s (fresh_of a)
+  Leads a (Some i) = Fits s (get_or t i free_of)
 
-  pub leads_fits : (a : ℕ) (at : Found) → Leads a at → Fits s (peer_of t at a)
-  leads_fits a Nothing l = l.2
-  leads_fits a (At i) l = l
+  pub leads_fits : (a : ℕ) (at : Option ℕ) → Leads a at → Fits s (peer_of t at a)
+  leads_fits a None l = l.2
+  leads_fits a (Some i) l = l
 
   module _ (a : ℕ) (own : not (eqb a s.own) ≡ true) (v : valid_of a ≡ true) where
-    pub find_leads : (at : Found) → find_link_of t a ≡ Nothing → find_of (addresses_of t) a ≡ at → Leads a at
-    find_leads Nothing n e = (first_none (λ (b : ℕ). eqb b a) (addresses_of t) 0 e, no_link t a (valid_named a v) n, fresh_fits s a own v)
-    find_leads (At i) n e = found_fits s (get_or t i free_of) (place_fits_lem i) (rw (found_address t a i e) v)
+    pub find_leads : (at : Option ℕ) → find_link_of t a ≡ None → find_of (addresses_of t) a ≡ at → Leads a at
+    find_leads None n e = (first_none (λ (b : ℕ). eqb b a) (addresses_of t) 0 e, no_link t a (valid_named a v) n, fresh_fits s a own v)
+    find_leads (Some i) n e = found_fits s (get_or t i free_of) (place_fits_lem i) (rw (found_address t a i e) v)
 
-    pub seek_leads : (at : Found) → seek_of t (addresses_of t) a ≡ at → Leads a at
+    pub seek_leads : (at : Option ℕ) → seek_of t (addresses_of t) a ≡ at → Leads a at
     unfolding seek_of
     seek_leads at e = go (find_link_of t a) refl e
       where
-        go : (l : Found) → find_link_of t a ≡ l → on_found l (find_of (addresses_of t) a) (λ i. At i) ≡ at → Leads a at
-        go Nothing n q = find_leads at n q
-        go (At i) n q = rw (← q) (linked_fits a i n)
+        go : (l : Option ℕ) → find_link_of t a ≡ l → on_found l (find_of (addresses_of t) a) (λ i. Some i) ≡ at → Leads a at
+        go None n q = find_leads at n q
+        go (Some i) n q = rw (← q) (linked_fits a i n)
 
   -- a device that is spoken to by its link is an AP's; else it has one address
-  pub alone_found : (a : ℕ) (at : Found) → seek_of t (addresses_of t) a ≡ at → Leads a at → eqb s.role ap ≡ false → a ≡ (peer_of t at a).address
+  pub alone_found : (a : ℕ) (at : Option ℕ) → seek_of t (addresses_of t) a ≡ at → Leads a at → eqb s.role ap ≡ false → a ≡ (peer_of t at a).address
   unfolding seek_of fresh_of
   alone_found a at e f n = go (find_link_of t a) refl at e f
     where
-      device : (at : Found) → find_of (addresses_of t) a ≡ at → a ≡ (peer_of t at a).address
-      device Nothing q = refl
-      device (At i) q = sym (found_address t a i q)
+      device : (at : Option ℕ) → find_of (addresses_of t) a ≡ at → a ≡ (peer_of t at a).address
+      device None q = refl
+      device (Some i) q = sym (found_address t a i q)
 
-      go : (l : Found) → find_link_of t a ≡ l → (at : Found) → on_found l (find_of (addresses_of t) a) (λ i. At i) ≡ at → Leads a at → a ≡ (peer_of t at a).address
-      go Nothing l at q f = device at q
-      go (At i) l at q f = clash (linked_stand s (get_or t i free_of) (linked_fits a i l) (some_links t a i l)).0 n
+      go : (l : Option ℕ) → find_link_of t a ≡ l → (at : Option ℕ) → on_found l (find_of (addresses_of t) a) (λ i. Some i) ≡ at → Leads a at → a ≡ (peer_of t at a).address
+      go None l at q f = device at q
+      go (Some i) l at q f = clash (linked_stand s (get_or t i free_of) (linked_fits a i l) (some_links t a i l)).0 n

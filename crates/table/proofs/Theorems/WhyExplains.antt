@@ -45,8 +45,7 @@ use Rattle.table.specs.declared.rules.event.Event.{Event}
 use Rattle.table.specs.declared.rules.event.Event.TheVariants as event
 use Rattle.table.specs.declared.rules.read.Reading.{Reading}
 use Rattle.table.specs.declared.rules.read.Reading.TheVariants.{Refused, Discarded, Admitted, From}
-use Rattle.table.specs.declared.rules.seat.Found.{Found}
-use Rattle.table.specs.declared.rules.seat.Found.TheVariants.{At, Nothing}
+use Rattle.std.specs.Prelude.{Option, Some, None}
 use Rattle.table.specs.declared.rules.why.Reason.TheVariants.{Refusal}
 use Rattle.table.proofs.Theorems.Worded.{ruled_at}
 use Rattle.table.proofs.Theorems.WordedLinks.{ruled_links_at}
@@ -108,14 +107,14 @@ module _ (s : Settings) (t : List Record) (xs : List ℕ) (n : ℕ) where
   ask_case k p m r v = by_bool (eqb k 0) (λ z. rw z (passes r v)) (λ z. rw z (refuses (eqb-false k 0 z) refl refl))
 
   -- one turn, whether or not a place is free
-  turn_plain : (at free : Found) (turn : Turn) → turn.verdict ≡ none → ((turn_in t at free turn turn).answer.refusal ≡ 0) × ((turn_in t at free turn turn).answer.verdict ≡ none)
+  turn_plain : (at free : Option ℕ) (turn : Turn) → turn.verdict ≡ none → ((turn_in t at free turn turn).answer.refusal ≡ 0) × ((turn_in t at free turn turn).answer.verdict ≡ none)
   unfolding seated_of stranger_of newcomer_of
-  turn_plain (At i) free turn v = (refl, v)
-  turn_plain Nothing free turn v = by_bool (starts_of turn) (λ b. rw b (found free)) (λ b. rw b (refl, v))
+  turn_plain (Some i) free turn v = (refl, v)
+  turn_plain None free turn v = by_bool (starts_of turn) (λ b. rw b (found free)) (λ b. rw b (refl, v))
     where
-      found : (free : Found) → ((on_found free (stranger_of t turn) (λ i. seated_of t i turn)).answer.refusal ≡ 0) × ((on_found free (stranger_of t turn) (λ i. seated_of t i turn)).answer.verdict ≡ none)
-      found Nothing = (refl, v)
-      found (At i) = (refl, v)
+      found : (free : Option ℕ) → ((on_found free (stranger_of t turn) (λ i. seated_of t i turn)).answer.refusal ≡ 0) × ((on_found free (stranger_of t turn) (λ i. seated_of t i turn)).answer.verdict ≡ none)
+      found None = (refl, v)
+      found (Some i) = (refl, v)
 
   asked_case : (q a c : ℕ) → Case t (why_of s t (event.Ask q a c) xs n).reason (step_of s t (event.Ask q a c) xs n)
   unfolding why_of why_asked asked_of asked_at first_of unless stepped_of refused_of settled_of towards_of

@@ -28,20 +28,19 @@ use Rattle.peer.specs.declared.record.Record.{Record}
 use Rattle.table.specs.Places.{addresses_of, find_link_of, find_of, first_from, has_link, on_found, seek_of}
 use Rattle.table.specs.Reasons.{device_told, first_told, out_of_class, sender_told, to_group}
 use Rattle.table.specs.Seat.{peer_of}
-use Rattle.table.specs.declared.rules.seat.Found.{Found}
-use Rattle.table.specs.declared.rules.seat.Found.TheVariants.{At, Nothing}
+use Rattle.std.specs.Prelude.{Option, Some, None}
 use Rattle.table.proofs.Passes.Lists.{first_at}
 
 -- ---- the event's own peer
 
 module _ {A : Type 0} (f : Record → A) where
   -- what is told of the first record is told of the one at the place found ..
-  told_at : (m : Record → Bool) (z : A) (t : List Record) (n i : ℕ) → first_from m n t ≡ At i → first_told m z f t ≡ f (get_or t (i - n) free_of)
+  told_at : (m : Record → Bool) (z : A) (t : List Record) (n i : ℕ) → first_from m n t ≡ Some i → first_told m z f t ≡ f (get_or t (i - n) free_of)
   unfolding first_from first_told
   told_at m z [] n i e = let w : ◌≡◌ {A = ℕ} 0 1 = cc in absurd (omega arith)
   told_at m z (p ∷ ps) n i e = by_bool (m p)
       (λ b.
-      let q : At n ≡ At i = rw b at e in
+      let q : Some n ≡ Some i = rw b at e in
       let same : n ≡ i = cc in
       let zero_left : i - n ≡ 0 = omega arith in
       rw (b, zero_left))
@@ -51,25 +50,25 @@ module _ {A : Type 0} (f : Record → A) where
       rw (b, more) (told_at m z ps (n + 1) i (rw b at e)))
 
   -- .. and where none is found, nothing is
-  told_none : (m : Record → Bool) (z : A) (t : List Record) (n : ℕ) → first_from m n t ≡ Nothing → first_told m z f t ≡ z
+  told_none : (m : Record → Bool) (z : A) (t : List Record) (n : ℕ) → first_from m n t ≡ None → first_told m z f t ≡ z
   unfolding first_from first_told
   told_none m z [] n e = refl
   told_none m z (p ∷ ps) n e = by_bool (m p)
-      (λ b. let q : At n ≡ Nothing = rw b at e in let w : ◌≡◌ {A = ℕ} 0 1 = cc in absurd (omega arith))
+      (λ b. let q : Some n ≡ None = rw b at e in let w : ◌≡◌ {A = ℕ} 0 1 = cc in absurd (omega arith))
       (λ b. rw b (told_none m z ps (n + 1) (rw b at e)))
 
   first_map : (a : ℕ) (t : List Record) (n : ℕ) → first_from (λ b. eqb b a) n (addresses_of t) ≡ first_from (λ p. eqb p.address a) n t
   unfolding first_from
   first_map a [] n = refl
-  first_map a (p ∷ ps) n = apply (pick (eqb p.address a) (At n)) (first_map a ps (n + 1))
+  first_map a (p ∷ ps) n = apply (pick (eqb p.address a) (Some n)) (first_map a ps (n + 1))
 
-  told_place : (m : Record → Bool) (z : A) (t : List Record) (at : Found) → first_from m 0 t ≡ at → first_told m z f t ≡ on_found at z (λ i. f (get_or t i free_of))
-  told_place m z t Nothing e = told_none m z t 0 e
-  told_place m z t (At i) e = let at_i : i - 0 ≡ i = omega arith in rw at_i at (told_at m z t 0 i e)
+  told_place : (m : Record → Bool) (z : A) (t : List Record) (at : Option ℕ) → first_from m 0 t ≡ at → first_told m z f t ≡ on_found at z (λ i. f (get_or t i free_of))
+  told_place m z t None e = told_none m z t 0 e
+  told_place m z t (Some i) e = let at_i : i - 0 ≡ i = omega arith in rw at_i at (told_at m z t 0 i e)
 
-  placed : (t : List Record) (a : ℕ) (at : Found) → on_found at (f (fresh_of a)) (λ i. f (get_or t i free_of)) ≡ f (peer_of t at a)
-  placed t a Nothing = refl
-  placed t a (At i) = refl
+  placed : (t : List Record) (a : ℕ) (at : Option ℕ) → on_found at (f (fresh_of a)) (λ i. f (get_or t i free_of)) ≡ f (peer_of t at a)
+  placed t a None = refl
+  placed t a (Some i) = refl
 
   -- of a primitive's peer: its record, fresh where it has none
   pub device_told_lem : (t : List Record) (a : ℕ) → device_told t a (f (fresh_of a)) f ≡ f (peer_of t (find_of (addresses_of t) a) a)
@@ -87,10 +86,10 @@ module _ {A : Type 0} (f : Record → A) where
       a : ℕ
       a = field 6 10 xs
 
-      go : (l : Found) → first_from (has_link (field 6 10 xs)) 0 t ≡ l
-          → sender_told t xs (f (fresh_of (field 6 10 xs))) f ≡ f (peer_of t (on_found (pick (eqb (field 6 10 xs) 0) Nothing (first_from (has_link (field 6 10 xs)) 0 t)) (find_of (addresses_of t) (field 6 10 xs)) (λ i. At i)) (field 6 10 xs))
-      go Nothing e = rw (z, e) (told_place (has_link (field 6 10 xs)) _ t Nothing e ∙ device_told_lem t (field 6 10 xs))
-      go (At i) e = rw (z, e) (told_place (has_link (field 6 10 xs)) _ t (At i) e)
+      go : (l : Option ℕ) → first_from (has_link (field 6 10 xs)) 0 t ≡ l
+          → sender_told t xs (f (fresh_of (field 6 10 xs))) f ≡ f (peer_of t (on_found (pick (eqb (field 6 10 xs) 0) None (first_from (has_link (field 6 10 xs)) 0 t)) (find_of (addresses_of t) (field 6 10 xs)) (λ i. Some i)) (field 6 10 xs))
+      go None e = rw (z, e) (told_place (has_link (field 6 10 xs)) _ t None e ∙ device_told_lem t (field 6 10 xs))
+      go (Some i) e = rw (z, e) (told_place (has_link (field 6 10 xs)) _ t (Some i) e)
 
 -- ---- 6.
 

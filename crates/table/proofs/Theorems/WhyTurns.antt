@@ -44,8 +44,8 @@ use Rattle.table.specs.Reasons.{is_discard}
 use Rattle.table.specs.Seat.{newcomer_of, peer_of, seated_of, starts_of, stored_in, stranger_of, turn_in}
 use Rattle.table.specs.Why.{why_from}
 use Rattle.table.specs.declared.rules.answer.Stepped.{Stepped}
-use Rattle.table.specs.declared.rules.seat.Found.{Found}
-use Rattle.table.specs.declared.rules.seat.Found.TheVariants.{At, Nothing}
+use Rattle.std.specs.Prelude.{Option}
+use Rattle.std.specs.declared.option.Option.TheVariants as option
 use Rattle.table.specs.declared.rules.why.Reason.{Reason}
 use Rattle.table.specs.declared.rules.why.Reason.TheVariants.{None, ClassFilter, GroupRule, NothingToDo}
 use Rattle.table.proofs.Theorems.WhyCases.{Case, does, idles, stops}
@@ -125,21 +125,21 @@ not_restored t i sole q r e same =
     let here : get_or t i free_of ≡ q = apply (λ (l : List Record). get_or l i free_of) (sym same) ∙ get_or-set_same base i q free_of inside in
     clash r (apply (λ (p : Record). is_running p.query) here ∙ apply is_running e)
 
-module _ (s : Settings) (t : List Record) (n a : ℕ) (free : Found) (roomy : ltb n longest ≡ false) where
-  abbrev stepped : Found → Turn → Turn → Stepped
+module _ (s : Settings) (t : List Record) (n a : ℕ) (free : Option ℕ) (roomy : ltb n longest ≡ false) where
+  abbrev stepped : Option ℕ → Turn → Turn → Stepped
   stepped at turn full = stepped_of (turn_in t at free (towards_of a turn) (towards_of a full)) n
 
-  stopped_at : (q : Reason) → is_discard q ≡ true → (at : Found) (turn full : Turn) → turn.verdict ≡ discard → turn.peer ≡ peer_of t at a → Case t q (stepped at turn full)
+  stopped_at : (q : Reason) → is_discard q ≡ true → (at : Option ℕ) (turn full : Turn) → turn.verdict ≡ discard → turn.peer ≡ peer_of t at a → Case t q (stepped at turn full)
   unfolding stepped_of seated_of newcomer_of stranger_of starts_of towards_of fresh_of no_links
-  stopped_at q d (At i) turn full v e = stops d refl v
-  stopped_at q d Nothing turn full v e = rw e (stops d refl v)
+  stopped_at q d (option.Some i) turn full v e = stops d refl v
+  stopped_at q d option.None turn full v e = rw e (stops d refl v)
 
-  idle_at : (at : Found) (full : Turn) → Case t NothingToDo (stepped at (still_of s (peer_of t at a) admit) full)
+  idle_at : (at : Option ℕ) (full : Turn) → Case t NothingToDo (stepped at (still_of s (peer_of t at a) admit) full)
   unfolding stepped_of seated_of newcomer_of stranger_of starts_of towards_of fresh_of no_links still_of replied_of turn_of
-  idle_at (At i) full =
+  idle_at (option.Some i) full =
       idles (record { admitted = refl; table = set-get_or t i free_of; notice = refl; written = refl }) refl
       (ds_beside s.role (get_or t i free_of).state (get_or t i free_of).state refl)
-  idle_at Nothing full = idles (record { admitted = refl; table = refl; notice = refl; written = refl }) refl (ds_beside s.role 1 1 refl)
+  idle_at option.None full = idles (record { admitted = refl; table = refl; notice = refl; written = refl }) refl (ds_beside s.role 1 1 refl)
 
   -- our own side is told, something is written, or the table is another one
   spoke : (p : Record) (turn : Turn) → Done p turn → (is_running p.query ≡ true → turn.peer.query ≡ query.None → ⊥) → turn.told.notice ≡ 0 → said_length (directed_of a turn.reply) n ≡ 0 → ⊥
@@ -155,16 +155,16 @@ module _ (s : Settings) (t : List Record) (n a : ℕ) (free : Found) (roomy : lt
   unfolding stepped_of stranger_of towards_of
   stranger_does p turn v d f = does (λ x. spoke p turn d (λ r q. clash r f) x.notice x.written) refl v
 
-  done_at : (at : Found) (turn full : Turn) → turn.verdict ≡ admit → full.verdict ≡ admit → Done (peer_of t at a) turn → Done (peer_of t at a) full → Case t None (stepped at turn full)
+  done_at : (at : Option ℕ) (turn full : Turn) → turn.verdict ≡ admit → full.verdict ≡ admit → Done (peer_of t at a) turn → Done (peer_of t at a) full → Case t None (stepped at turn full)
   unfolding newcomer_of fresh_of
-  done_at (At i) turn full v w d f = seated_does i (get_or t i free_of) turn v d (λ r q same. not_restored t i turn.sole turn.peer r q same)
-  done_at Nothing turn full v w d f = by_bool (starts_of (towards_of a turn)) (λ b. rw b (found free)) (λ b. rw b (stranger_does (fresh_of a) turn v d refl))
+  done_at (option.Some i) turn full v w d f = seated_does i (get_or t i free_of) turn v d (λ r q same. not_restored t i turn.sole turn.peer r q same)
+  done_at option.None turn full v w d f = by_bool (starts_of (towards_of a turn)) (λ b. rw b (found free)) (λ b. rw b (stranger_does (fresh_of a) turn v d refl))
     where
-      found : (free : Found) → Case t None (stepped_of (on_found free (stranger_of t (towards_of a full)) (λ i. seated_of t i (towards_of a turn))) n)
-      found Nothing = stranger_does (fresh_of a) full w f refl
-      found (At i) = seated_does i (fresh_of a) turn v d (λ r q same. wrong r)
+      found : (free : Option ℕ) → Case t None (stepped_of (on_found free (stranger_of t (towards_of a full)) (λ i. seated_of t i (towards_of a turn))) n)
+      found option.None = stranger_does (fresh_of a) full w f refl
+      found (option.Some i) = seated_does i (fresh_of a) turn v d (λ r q same. wrong r)
 
-  pub from_case : (at : Found) (k : FrameClass) (g : Bool) (h : Heard) → Case t (why_from s (peer_of t at a) k g h).reason (stepped at (hear_of s (peer_of t at a) k g h) (full_of s (peer_of t at a)))
+  pub from_case : (at : Option ℕ) (k : FrameClass) (g : Bool) (h : Heard) → Case t (why_from s (peer_of t at a) k g h).reason (stepped at (hear_of s (peer_of t at a) k g h) (full_of s (peer_of t at a)))
   unfolding why_from
   from_case at k g h =
       let p = peer_of t at a in

@@ -28,8 +28,7 @@ use Rattle.table.specs.Fit.{crowd_of, distinct_of, links_apart, sparse_of, well_
 use Rattle.table.specs.Others.{others_of}
 use Rattle.table.specs.Places.{addresses_of, all_of, count_of, find_link_of, find_of, is_found, link_addresses_of, on_found, some_of}
 use Rattle.table.specs.Seat.{peer_of}
-use Rattle.table.specs.declared.rules.seat.Found.{Found}
-use Rattle.table.specs.declared.rules.seat.Found.TheVariants.{At, Nothing}
+use Rattle.std.specs.Prelude.{Option, Some, None}
 use Rattle.table.proofs.Passes.Lists.{first_none}
 use Rattle.table.proofs.Theorems.Well.{found_address}
 use Rattle.table.proofs.Theorems.WordedPrimitives.{by_number, roles_same, may_same}
@@ -37,9 +36,9 @@ use Rattle.table.proofs.Theorems.WordedRecords.{some_none, some_at, some_count, 
 
 -- ---- 9, 7, 8 and 6, in a well-formed table
 
-flip : (f : Found) → not (on_found f false (λ i. true)) ≡ on_found f true (λ i. false)
-flip Nothing = refl
-flip (At i) = refl
+flip : (f : Option ℕ) → not (on_found f false (λ i. true)) ≡ on_found f true (λ i. false)
+flip None = refl
+flip (Some i) = refl
 
 not_leb : (n : ℕ) → not (leb 3 n) ≡ ltb n 3
 not_leb n = by_bool (leb 3 n)
@@ -79,24 +78,24 @@ module _ (s : Settings) (t : List Record) (w : Facts s t) (a : ℕ) (v : valid_o
   unfolding fresh_of
   peer_address = go (find_of (addresses_of t) a) refl
     where
-      go : (at : Found) → find_of (addresses_of t) a ≡ at → (peer_of t at a).address ≡ a
-      go Nothing e = refl
-      go (At i) e = found_address t a i e
+      go : (at : Option ℕ) → find_of (addresses_of t) a ≡ at → (peer_of t at a).address ≡ a
+      go None e = refl
+      go (Some i) e = found_address t a i e
 
   -- what some record of the peer's passes, the peer's record passes, where a fresh one does not
   pub has_peer : (f : Record → Bool) → f (fresh_of a) ≡ false → peer_has t a f ≡ f peer
   has_peer f none = go (find_of (addresses_of t) a) refl
     where
-      go : (at : Found) → find_of (addresses_of t) a ≡ at → peer_has t a f ≡ f (peer_of t at a)
-      go Nothing e = some_none a f t (first_none (λ (b : ℕ). eqb b a) (addresses_of t) 0 e) ∙ sym none
-      go (At i) e = some_at a f named t i w.distinct (found_address t a i e)
+      go : (at : Option ℕ) → find_of (addresses_of t) a ≡ at → peer_has t a f ≡ f (peer_of t at a)
+      go None e = some_none a f t (first_none (λ (b : ℕ). eqb b a) (addresses_of t) 0 e) ∙ sym none
+      go (Some i) e = some_at a f named t i w.distinct (found_address t a i e)
 
   pub has_record : peer_has t a (λ p. true) ≡ on_found (find_of (addresses_of t) a) false (λ i. true)
   has_record = go (find_of (addresses_of t) a) refl
     where
-      go : (at : Found) → find_of (addresses_of t) a ≡ at → peer_has t a (λ p. true) ≡ on_found at false (λ i. true)
-      go Nothing e = some_none a (λ p. true) t (first_none (λ (b : ℕ). eqb b a) (addresses_of t) 0 e)
-      go (At i) e = some_at a (λ p. true) named t i w.distinct (found_address t a i e)
+      go : (at : Option ℕ) → find_of (addresses_of t) a ≡ at → peer_has t a (λ p. true) ≡ on_found at false (λ i. true)
+      go None e = some_none a (λ p. true) t (first_none (λ (b : ℕ). eqb b a) (addresses_of t) 0 e)
+      go (Some i) e = some_at a (λ p. true) named t i w.distinct (found_address t a i e)
 
   record Same (q : ℕ) : Type 0 where
     nine : under_way_already t q a ≡ conflict_of peer others q

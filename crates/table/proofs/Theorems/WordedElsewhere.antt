@@ -17,8 +17,7 @@ use Rattle.table.specs.Fit.{alone_in, apart, distinct_of}
 use Rattle.table.specs.Link.{used_elsewhere}
 use Rattle.table.specs.Order.{address_of}
 use Rattle.table.specs.Places.{addresses_of, all_of, all_tails, find_link_of, find_of, first_from, has_link, is_found, link_addresses_of, on_found, some_of}
-use Rattle.table.specs.declared.rules.seat.Found.{Found}
-use Rattle.table.specs.declared.rules.seat.Found.TheVariants.{At, Nothing}
+use Rattle.std.specs.Prelude.{Option, Some, None}
 use Rattle.table.proofs.Order.OwnRecord.{all_at, find_at}
 use Rattle.table.proofs.Passes.LinkLaws.{all_weak, apart_both, free_without, link_found, link_inside, link_nowhere, only_here, some_all}
 use Rattle.table.proofs.Passes.Lists.{first_none, get_map, swap}
@@ -112,14 +111,14 @@ module _ (s : Settings) (t : List Record) (w : Facts s t) (device : ℕ) (named 
   address_found n a (p ∷ u) = by_bool (eqb p.address a) (λ e. rw e) (λ e. rw e (address_found (n + 1) a u))
 
   -- whether the record at a place is the device's, by where the device is found
-  at_device : (j : ℕ) → (i : Found) → find_of ads device ≡ i → j < length t → eqb (get_or t j free_of).address device ≡ on_found i false (λ i. eqb i j)
-  at_device j Nothing e h =
+  at_device : (j : ℕ) → (i : Option ℕ) → find_of ads device ≡ i → j < length t → eqb (get_or t j free_of).address device ≡ on_found i false (λ i. eqb i j)
+  at_device j None e h =
       not-true _ (rw (get_map address_of t j free_of) at (all_at (λ (b : ℕ). not (eqb b device)) ads j 0 (first_none (λ (b : ℕ). eqb b device) ads 0 e) (rw (length-map t address_of) h)))
-  at_device j (At i) e h = by_bool (eqb (get_or t j free_of).address device)
+  at_device j (Some i) e h = by_bool (eqb (get_or t j free_of).address device)
       (λ q.
       let same = eqb-true _ device q in
-      let there : find_of ads device ≡ At j = rw same at (find_at t j w.distinct h (rw same named)) in
-      let one : At i ≡ At j = sym e ∙ there in
+      let there : find_of ads device ≡ Some j = rw same at (find_at t j w.distinct h (rw same named)) in
+      let one : Some i ≡ Some j = sym e ∙ there in
       let k : i ≡ j = cc in
       q ∙ sym (eq-eqb i j k))
       (λ q. q ∙ sym (ne_eqb i j (λ (k : i ≡ j). eqb-false _ device q (rw (← k) (found_address t device i e)))))
@@ -142,11 +141,11 @@ module _ (s : Settings) (t : List Record) (w : Facts s t) (device : ℕ) (named 
       no_and true = refl
       no_and false = refl
 
-      linked : (f : Found) → find_link_of t l ≡ f → some_of (λ p. not (eqb p.address device) && has_link l p) t ≡ on_found f false (λ j. not (on_found (find_of ads device) false (λ i. eqb i j)))
-      linked Nothing e =
+      linked : (f : Option ℕ) → find_link_of t l ≡ f → some_of (λ p. not (eqb p.address device) && has_link l p) t ≡ on_found f false (λ j. not (on_found (find_of ads device) false (λ i. eqb i j)))
+      linked None e =
           some_none (λ (p : Record). not (eqb p.address device) && has_link l p) t
           (all_weak (λ (p : Record). not (has_link l p)) (λ p. not (not (eqb p.address device) && has_link l p)) (λ p n. rw (not-true (has_link l p) n) (no_and (not (eqb p.address device)))) t (link_nowhere t l z e))
-      linked (At j) e =
+      linked (Some j) e =
           let h = link_found t l j e in
           some_only (has_link l) (λ p. not (eqb p.address device)) free_of t j (free_without l z) h.1 (only_here l z t j (apart_both (link_addresses_of t) ads w.apart).0 h.1)
           ∙ apply not (at_device j (find_of ads device) refl (link_inside t l j e))

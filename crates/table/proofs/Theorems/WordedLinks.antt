@@ -23,7 +23,7 @@ use Rattle.table.specs.Link.{count_fits, count_in, device_in, given_in, link_all
 use Rattle.table.specs.Places.{addresses_of, all_of, all_tails, find_link_of, find_of, has_link, is_found, some_of}
 use Rattle.table.specs.Refusals.{first_of}
 use Rattle.table.specs.Seat.{peer_of}
-use Rattle.table.specs.declared.rules.seat.Found.{Found}
+use Rattle.std.specs.Prelude.{Option}
 use Rattle.table.proofs.Passes.LinkLaws.{all_weak, link_some}
 use Rattle.table.proofs.Passes.Lists.{join}
 use Rattle.table.proofs.Theorems.LinkKeeps.{none_behind}
@@ -37,7 +37,7 @@ module _ (s : Settings) (t : List Record) (w : Facts s t) (xs : List ℕ) where
   abbrev device : ℕ
   device = device_in xs
 
-  abbrev at : Found
+  abbrev at : Option ℕ
   at = find_of (addresses_of t) device
 
   abbrev allowed : ℕ → Bool

@@ -11,14 +11,14 @@ use lib.Dec.{ltb, eqb}
 use lib.ListN.{length, drop, length-append, length-drop}
 use lib.Seq.{sets, sets-eq, take-append_seam, drop-append_seam}
 use borrow.Author.Tests.{ltb-false, not-true, eqb-true}
+use Rattle.std.proofs.Common.{Option, None, Some}
 use Rattle.octets.specs.Frame.{longest, bytes_of, written_of, length_of}
 use Rattle.octets.proofs.Branch.{and_left, by_bool}
 use Rattle.octets.proofs.Lengths.{bytes_length, body_short}
+use Rattle.octets.specs.declared.frame.Frame.{Frame}
 use Rattle.peer.specs.Tick.{tick_of}
 use Rattle.peer.specs.declared.settings.Settings.{Settings}
 use Rattle.peer.specs.declared.record.Record.{Record}
-use Rattle.peer.specs.declared.reply.Reply.{Reply}
-use Rattle.peer.specs.declared.reply.Reply.TheVariants.{Silent, Send}
 use Rattle.table.specs.Places.{all_tails}
 use Rattle.table.specs.Answer.{settled_of, refused_of, said_length, said_in, stepped_of}
 use Rattle.table.specs.Refusals.{first_of, unless}
@@ -47,25 +47,25 @@ at_front most vs l h k = record {
 
 -- ---- a reply
 
-reply_written : (r : Reply) (l : List ℕ) → (ltb (length l) longest ≡ true → r ≡ Silent) → Written longest (reply_bytes r) l (said_in r l) (said_length r (length l))
+reply_written : (r : Option Frame) (l : List ℕ) → (ltb (length l) longest ≡ true → r ≡ None) → Written longest (reply_bytes r) l (said_in r l) (said_length r (length l))
 unfolding written_of length_of
-reply_written Silent l h = at_front longest [] l (omega arith) (omega arith)
-reply_written (Send f) l h = by_bool (ltb (length l) longest)
+reply_written None l h = at_front longest [] l (omega arith) (omega arith)
+reply_written (Some f) l h = by_bool (ltb (length l) longest)
     (λ e. let z : ◌≡◌ {A = ℕ} 0 1 = cc (h e) in absurd (omega arith))
     (λ e.
     let long : 37 ≤ length l = ltb-false (length l) 37 e in
     let short : length (bytes_of f) ≤ 37 = omega (arith, bytes_length f, body_short f.body) in
     simp e (at_front longest (bytes_of f) l short (omega arith)))
 
-received_silent : (s : Settings) (t : List Record) (xs : List ℕ) (n : ℕ) → ltb n longest ≡ true → (received_of s t xs n).reply ≡ Silent
+received_silent : (s : Settings) (t : List Record) (xs : List ℕ) (n : ℕ) → ltb n longest ≡ true → (received_of s t xs n).reply ≡ None
 unfolding received_of refused_of settled_of
 received_silent s t xs n e = rw e
 
-asked_silent : (s : Settings) (t : List Record) (q a c n : ℕ) → ltb n longest ≡ true → (asked_of s t q a c n).reply ≡ Silent
+asked_silent : (s : Settings) (t : List Record) (q a c n : ℕ) → ltb n longest ≡ true → (asked_of s t q a c n).reply ≡ None
 unfolding asked_of first_of unless refused_of settled_of
 asked_silent s t q a c n e = rw e
 
-linked_silent : (s : Settings) (t : List Record) (xs : List ℕ) (n : ℕ) → ltb n longest ≡ true → (linked_of s t xs n).reply ≡ Silent
+linked_silent : (s : Settings) (t : List Record) (xs : List ℕ) (n : ℕ) → ltb n longest ≡ true → (linked_of s t xs n).reply ≡ None
 unfolding linked_of first_of unless refused_of settled_of
 linked_silent s t xs n e = rw e
 

@@ -23,8 +23,7 @@ use Rattle.peer.specs.declared.settings.Settings.{Settings}
 use Rattle.table.specs.Fit.{alone_in, links_apart}
 use Rattle.table.specs.Places.{all_tails, all_of, find_link_of, first_from, has_link, link_addresses_of, some_of}
 use Rattle.table.specs.Rows.{linked_in}
-use Rattle.table.specs.declared.rules.seat.Found.{Found}
-use Rattle.table.specs.declared.rules.seat.Found.TheVariants.{At, Nothing}
+use Rattle.std.specs.Prelude.{Option, Some, None}
 use Rattle.table.proofs.Passes.Loops.{left_step, left_end}
 
 -- ---- the slots of all places: four for each
@@ -53,8 +52,8 @@ unfoldable pub within : {A B : Type 0} → (A → Bool) → List A → B → B �
 within f t x y = pick (some_of f t) x y
 
 -- the outer loop enters a place, with what comes after it
-pub first_in : {A B : Type 0} (f : B → Bool) (g : A → List B) (t : List A) (i : ℕ) (r : Found) → first_from (λ p. some_of f (g p)) i (drop i t) ≡ r → (d : A) → i < length t
-    → within f (g (get_or t i d)) (At i) (first_from (λ p. some_of f (g p)) (i + 1) (drop (i + 1) t)) ≡ r
+pub first_in : {A B : Type 0} (f : B → Bool) (g : A → List B) (t : List A) (i : ℕ) (r : Option ℕ) → first_from (λ p. some_of f (g p)) i (drop i t) ≡ r → (d : A) → i < length t
+    → within f (g (get_or t i d)) (Some i) (first_from (λ p. some_of f (g p)) (i + 1) (drop (i + 1) t)) ≡ r
 unfolding first_from within
 first_in f g t i r q d h = sym (left_step (first_from (λ p. some_of f (g p)) i) t i d h) ∙ q
 
@@ -90,7 +89,7 @@ bare p ps h =
     (unlinked_of p.links (not-false (no_links p.links) k.0), k.1)
 
 module _ (a : ℕ) (z : eqb a 0 ≡ false) where
-  none_has : (t : List Record) (n : ℕ) → linked_in t ≡ false → first_from (has_link a) n t ≡ Nothing
+  none_has : (t : List Record) (n : ℕ) → linked_in t ≡ false → first_from (has_link a) n t ≡ None
   unfolding first_from some_of
   none_has [] n h = refl
   none_has (p ∷ ps) n h =
@@ -98,7 +97,7 @@ module _ (a : ℕ) (z : eqb a 0 ≡ false) where
       let other : eqb 0 a ≡ false = ne_eqb 0 a (λ (e : 0 ≡ a). eqb-false a 0 z (sym e)) in
       rw (k.0, other) (none_has ps (n + 1) k.1)
 
-pub find_unlinked : (t : List Record) (a : ℕ) → linked_in t ≡ false → find_link_of t a ≡ Nothing
+pub find_unlinked : (t : List Record) (a : ℕ) → linked_in t ≡ false → find_link_of t a ≡ None
 unfolding find_link_of
 find_unlinked t a h = by_bool (eqb a 0) (λ e. rw e) (λ e. rw e (none_has a e t 0 h))
 

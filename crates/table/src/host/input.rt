@@ -28,21 +28,18 @@ fn is_marked(s: &[u8]) -> bool
 }
 
 // Whether a record of a kind may have a length, and stand where it stands.
+// Kinds by number: any octet may stand there, and `length_allowed` and `event_at` are about it.
 fn length_allowed(first: bool, kind: u8, size: u16) -> bool
     ensures { result ≡ length_allowed first kind size }
 {
     if first {
-        if kind == 0 {
-            settings_length(size as usize)
-        } else {
-            false
-        }
+        kind == 0 && settings_length(size as usize)
     } else {
         match kind {
             1 => size == 9,
             2 => size <= 4096,
             3 => size == 2,
-            4 => { if size < 7 { false } else { size <= 1537 } }
+            4 => 7 <= size && size <= 1537,
             _ => false,
         }
     }
@@ -52,10 +49,7 @@ fn length_allowed(first: bool, kind: u8, size: u16) -> bool
 fn is_miscounted(s: &[u8]) -> bool
     ensures { result ≡ miscounted s.now }
 {
-    if octet_at(s, 2) != 4 {
-        return false;
-    }
-    u16_at(s, 3) != 7 + 6 * (octet_at(s, 11) as u16)
+    octet_at(s, 2) == 4 && u16_at(s, 3) != 7 + 6 * (octet_at(s, 11) as u16)
 }
 
 // The event of a record: primitive, address, code; or a frame; or a clock step; or a device's links.
@@ -81,12 +75,12 @@ pub fn take(s: &[u8], first: bool) -> Taken
     if s.len() < 5 {
         return Taken::Cut;
     }
-    if is_marked(s) {} else {
+    if !is_marked(s) {
         return Taken::Fault;
     }
     let kind = octet_at(s, 2);
     let size = u16_at(s, 3);
-    if length_allowed(first, kind, size) {} else {
+    if !length_allowed(first, kind, size) {
         return Taken::Fault;
     }
     if s.len() - 5 < size as usize {

@@ -12,6 +12,7 @@ use peer::refuse::Others;
 use peer::settings::{Settings, answers};
 
 // What a station's primitives ask of the whole table; no other role looks at it.
+// Apart from that of `records`: a free row is told here by its octets, before it is read.
 fn others_in(s: Settings, table: &[u8]) -> Others
     requires { length table.now ≡ 1536 }
     ensures { result ≡ others_of s (records_of table.now) }
@@ -22,17 +23,16 @@ fn others_in(s: Settings, table: &[u8]) -> Others
     let mut associated = 0;
     let mut joined = 0;
     let mut associating = 0;
-    let mut i = 32;
-    while 0 < i {
-        i -= 1;
+    for i in (0..32).rev() {
         // A free place is nobody's.
-        if blank_at(table, 48 * i) {} else {
-            let p = look(table, i);
-            let on = p.is_joined();
-            associated = first_joined(on, p.address, associated);
-            joined = counted(joined, on);
-            associating = counted(associating, p.is_associating());
+        if blank_at(table, 48 * i) {
+            continue;
         }
+        let p = look(table, i);
+        let on = p.is_joined();
+        associated = first_joined(on, p.address, associated);
+        joined = counted(joined, on);
+        associating = counted(associating, p.is_associating());
     }
     let crowd = Counts {
         joined,
@@ -49,13 +49,7 @@ pub(crate) fn others_for(s: Settings, table: &[u8], e: Event) -> Others
         return nobody();
     }
     match e {
-        Event::Frame => nobody(),
-        Event::Ask {
-            primitive,
-            address,
-            code,
-        } => others_in(s, table),
-        Event::Links => nobody(),
-        Event::Clock(_) => nobody(),
+        Event::Ask { .. } => others_in(s, table),
+        _ => nobody(),
     }
 }

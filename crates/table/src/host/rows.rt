@@ -8,13 +8,12 @@ ghost use Rattle.peer.specs.Record.{free_of};
 ghost use Rattle.peer.specs.Tick.{tick_of};
 ghost use Rattle.peer.specs.declared.settings.Settings.{Settings as Given};
 ghost use Rattle.table.specs.Pass.{clocked_of, reports_of};
-ghost use Rattle.table.specs.Places.{addresses_of, find_of, on_found};
+ghost use Rattle.table.specs.Places.{addresses_of, find_of};
 ghost use Rattle.table.specs.Rows.{record_of, row_of, records_of, octets_of, is_table, links_over, row_numbered};
 ghost use Rattle.table.specs.Seat.{met_of, peer_of};
-ghost use Rattle.table.specs.declared.rules.seat.Found.TheVariants as found;
 
 use crate::rules::pass::put_report;
-use crate::rules::seat::{Change, Found};
+use crate::rules::seat::Change;
 use octets::row::{Row, address_in, put_head, put_row, row_at};
 use octets::vacant::blank_at;
 use peer::association::parted;
@@ -24,6 +23,7 @@ use peer::record::Record;
 use peer::settings::Settings;
 use peer::tick::tick;
 
+// No `From` here and below: neither type is this crate's, and the pages name both functions.
 pub fn record_of(r: Row) -> Record
     ensures { result ≡ record_of r }
 {
@@ -100,42 +100,32 @@ fn put(table: &mut [u8], i: usize, p: Record, linking: bool)
 }
 
 // The lowest place with an address. Of 0: the lowest free place.
-pub(crate) fn find(table: &[u8], address: u64) -> Found
+// Put where it is called, it costs fewer instructions than a call: what was found needs no flag then.
+#[inline(always)]
+pub(crate) fn find(table: &[u8], address: u64) -> Option<usize>
     requires { length table.now ≡ 1536 }
     ensures { result ≡ find_of (addresses_of (records_of table.now)) address }
 {
     // Never so, by the contract. It tells the compiler the length: no row is tested for room.
     if table.len() != 1536 {
-        return Found::Nothing;
+        return None;
     }
-    let mut i = 0;
-    while i < 32 {
+    for i in 0..32 {
         if address_in(table, 48 * i) == address {
-            return Found::At(i);
+            return Some(i);
         }
-        i += 1;
     }
-    Found::Nothing
-}
-
-// The lowest free place, looked up only for a peer that has no record.
-pub(crate) fn vacancy(table: &[u8], at: Found) -> Found
-    requires { length table.now ≡ 1536 }
-    ensures { result ≡ on_found at (find_of (addresses_of (records_of table.now)) 0) (λ i. found.Nothing) }
-{
-    match at {
-        Found::At(_) => Found::Nothing,
-        Found::Nothing => find(table, 0),
-    }
+    None
 }
 
 // The record of a peer, or a fresh one.
-pub fn peer_at(table: &[u8], at: Found, address: u64) -> Record
+#[tactic(auto, unfolding(crate::specs::Seat::peer_of))]
+pub fn peer_at(table: &[u8], at: Option<usize>, address: u64) -> Record
     ensures { result ≡ peer_of (records_of table.now) at address }
 {
     match at {
-        Found::Nothing => Record::fresh(address),
-        Found::At(i) => look(table, i),
+        None => Record::fresh(address),
+        Some(i) => look(table, i),
     }
 }
 
@@ -144,16 +134,14 @@ fn part_all(table: &mut [u8])
     requires { length table.old ≡ 1536 }
     ensures { table.new ≡ octets_of (map parted_of (records_of table.old)) }
 {
-    let mut i = 0;
-    while i < 32 {
-        let at = i;
-        i += 1;
+    for i in 0..32 {
         // A free place stays free.
-        if blank_at(&*table, 48 * at) {} else {
-            let p = look(&*table, at);
-            let q = parted(p);
-            store_head(&mut *table, at, q);
+        if blank_at(&*table, 48 * i) {
+            continue;
         }
+        let p = look(&*table, i);
+        let q = parted(p);
+        store_head(&mut *table, i, q);
     }
 }
 
@@ -179,8 +167,8 @@ pub(crate) fn met(table: &mut [u8], c: Change, linking: bool)
     }
     let place = c.place;
     match place {
-        Found::Nothing => {}
-        Found::At(i) => {
+        None => {}
+        Some(i) => {
             let p = c.peer;
             stored(table, i, p, c.sole, linking);
         }
@@ -191,6 +179,7 @@ pub(crate) fn met(table: &mut [u8], c: Change, linking: bool)
 fn resting(r: Row) -> bool
     ensures { result ≡ true → (row_numbered r ≡ true) × ((s : Given) (d : ℕ) → tick_of s (record_of r) d ≡ record { peer = record_of r; report = 0 }) }
 {
+    // Test by test: as one chain of `&&` the check did not prove it.
     if r.hold != 0 {
         return false;
     }
@@ -215,17 +204,14 @@ pub(crate) fn clock(s: Settings, table: &mut [u8], d: u16, out: &mut [u8]) -> u1
     ensures { (result ≡ (clocked_of s (records_of table.old) d).written) × (table.new ≡ octets_of (clocked_of s (records_of table.old) d).table) × (out.new ≡ sets out.old 0 (reports_of s d 0 (records_of table.old))) }
 {
     let mut n = 0;
-    let mut i = 0;
-    while i < 32 {
-        let at = i;
-        i += 1;
+    for i in 0..32 {
         // Nor does a free place wait for anything. The row is read anew where it does: its links are not read before.
-        if resting(row_at(&*table, 48 * at)) {} else {
-            let p = look(&*table, at);
+        if !resting(row_at(&*table, 48 * i)) {
+            let p = look(&*table, i);
             let q = tick(s, p, d);
-            n = put_report(&mut *out, n, at as u8, q.report, p.address);
+            n = put_report(&mut *out, n, i as u8, q.report, p.address);
             let after = q.peer;
-            store_head(&mut *table, at, after);
+            store_head(&mut *table, i, after);
         }
     }
     n as u16

@@ -19,6 +19,7 @@ use crate::rules::event::{Event, room};
 use peer::settings::Settings;
 
 // What is known of settings and table: whether they are well formed and, if so, whether any record has links.
+// Two flags: `Knows` is of both, and five functions promise or ask it.
 #[derive(Clone, Copy)]
 pub struct Known {
     pub well: bool,
@@ -66,11 +67,7 @@ pub fn known_after(table: &[u8], k: Known, e: Event) -> Known
 {
     match e {
         Event::Frame => k,
-        Event::Ask {
-            primitive,
-            address,
-            code,
-        } => k,
+        Event::Ask { .. } => k,
         Event::Links => Known {
             well: k.well,
             linked: linked_now(table),
@@ -90,7 +87,7 @@ pub fn known_call(
 ) -> Answer
     ensures { Knows s table.old k.well k.linked → room_of e ≤ length out.old → (result ≡ host_answer table.old s e octets.now out.old) × (table.new ≡ host_table table.old s e octets.now out.old) × (out.new ≡ host_in table.old s e octets.now out.old) }
 {
-    if k.well {} else {
+    if !k.well {
         return Answer::refusal(2);
     }
     let o = others_for(s, &*table, e);
@@ -144,8 +141,7 @@ fn turn(
     requires { Knows s table.old k.well k.linked }
     ensures { (gone result.size result.written table.new out.new answers.new ≡ gone_of s table.old records.now out.old answers.old) × Knows s table.new result.known.well result.known.linked }
 {
-    let t = take(records, false);
-    match t {
+    match take(records, false) {
         Taken::Cut => stop(k),
         Taken::Fault => stop(k),
         Taken::First(_) => stop(k),
@@ -198,8 +194,7 @@ pub fn run(table: &mut [u8], s: Settings, records: &[u8], out: &mut [u8], answer
     let mut k = checked(s, &*table);
     let mut from = 0;
     let mut at = 0;
-    let mut n = 0;
-    while n < most {
+    for n in 0..most {
         let p = turn_at(
             &mut *table,
             s,
@@ -217,7 +212,6 @@ pub fn run(table: &mut [u8], s: Settings, records: &[u8], out: &mut [u8], answer
         k = p.known;
         from += p.size;
         at += p.written;
-        n += 1;
     }
-    n as u64
+    most as u64
 }

@@ -9,6 +9,7 @@ use peer::settings::Settings;
 pub fn settings_length(n: usize) -> bool
     ensures { result ≡ settings_length n }
 {
+    // Length by length: of `matches!` the proof sees what the last arm knows under a name that may change.
     if n == 12 {
         return true;
     }
@@ -63,13 +64,14 @@ fn all_in(s: &[u8]) -> Settings
 
 // The settings in octets: role, own address, RSNA, two timeouts; edition, protection; a query's retry time and maximum; an ad hoc
 // network's address. Of another length: settings out of range, refused 2.
+// Settings out of range, and no Option: `settings_in` of `specs/Boundary.antt` gives these for another length.
 pub fn settings_in(s: &[u8]) -> Settings
     ensures { result ≡ settings_in s.now }
 {
     if s.len() == 24 {
         return all_in(s);
     }
-    if settings_length(s.len()) {} else {
+    if !settings_length(s.len()) {
         return Settings {
             own: 0,
             network: 0,

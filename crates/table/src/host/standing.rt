@@ -39,14 +39,15 @@ fn timing(role: u8, e: u8, left: u16) -> bool
     ensures { result ≡ pick (ltb e 7) (role_answers role && eqb left 0) (role_asks role && not (eqb left 0)) }
 {
     if e < 7 {
-        if answers(role) { left == 0 } else { false }
+        answers(role) && left == 0
     } else {
-        if asks(role) { left != 0 } else { false }
+        asks(role) && left != 0
     }
 }
 
 // An exchange, by its number, at a role: none; asked or awaiting, without a time, where requests are answered; sent, with one, where they are
 // made. A (re)association stands from State 2 on, where there is one.
+// By the row's numbers: no record is made of it (S14), and `exchange_of` gives the contract.
 fn exchange_standing(role: u8, e: u8, state: u8, left: u16) -> Standing
     ensures { (result.fit ≡ (leb e 9 && exchange_fits (exchange_of e) role state left)) × (result.fit ≡ true → result.associating ≡ leb 2 (under_way (exchange_of e))) }
 {
@@ -54,7 +55,7 @@ fn exchange_standing(role: u8, e: u8, state: u8, left: u16) -> Standing
     if e == 0 {
         return alone(left == 0);
     }
-    if timing(role, e, left) {} else {
+    if !timing(role, e, left) {
         return alone(false);
     }
     if e == 1 {
@@ -63,7 +64,7 @@ fn exchange_standing(role: u8, e: u8, state: u8, left: u16) -> Standing
     if e == 7 {
         return alone(true);
     }
-    if associates(role) {} else {
+    if !associates(role) {
         return alone(false);
     }
     if state < Record::STATE_2 {
@@ -121,13 +122,13 @@ pub(crate) fn row_standing(s: Settings, r: Row) -> Standing
     if r.address == s.own {
         return alone(false);
     }
-    if valid(r.address) {} else {
+    if !valid(r.address) {
         return alone(false);
     }
-    if query_standing(s, r.state, r.query, r.remaining) {} else {
+    if !query_standing(s, r.state, r.query, r.remaining) {
         return alone(false);
     }
-    if hold_fits(s.role, r.hold) {} else {
+    if !hold_fits(s.role, r.hold) {
         return alone(false);
     }
     exchange_standing(s.role, r.exchange, r.state, r.left)
@@ -139,6 +140,7 @@ pub(crate) fn plain(s: Settings, r: Row) -> bool
     requires { settings_fit s ≡ true }
     ensures { result ≡ true → ((row_numbered r && record_fits s (linked_of (record_of r) unlinked)) ≡ true) × (associates (record_of r) ≡ false) }
 {
+    // Test by test: as one chain of `&&` the check did not prove it.
     if r.exchange != 0 {
         return false;
     }
@@ -160,7 +162,7 @@ pub(crate) fn plain(s: Settings, r: Row) -> bool
     if r.address == s.own {
         return false;
     }
-    if valid(r.address) {} else {
+    if !valid(r.address) {
         return false;
     }
     r.hold == 0
@@ -178,8 +180,7 @@ fn links_standing(s: Settings, table: &[u8], at: usize) -> bool
         return false;
     }
     let r = row_at(table, at);
-    let links = r.links;
-    links_stand(s.own, r.address, links)
+    links_stand(s.own, r.address, r.links)
 }
 
 // The links of all rows.
@@ -187,12 +188,10 @@ pub(crate) fn all_links_standing(s: Settings, table: &[u8]) -> bool
     requires { length table.now ≡ 1536 }
     ensures { result ≡ all_of (links_fit s) (records_of table.now) }
 {
-    let mut i = 0;
-    while i < 32 {
-        if links_standing(s, table, 48 * i) {} else {
+    for i in 0..32 {
+        if !links_standing(s, table, 48 * i) {
             return false;
         }
-        i += 1;
     }
     true
 }

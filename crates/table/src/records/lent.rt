@@ -31,10 +31,9 @@ pub(crate) fn load(t: &[Record]) -> [Record; 32]
     ensures { result ≡ t.now }
 {
     let mut a = free_table();
-    let mut i = 0;
-    while i < 32 {
+    // One by one: with `copy_from_slice` here and in `store` a traced event took 11 % more instructions.
+    for i in 0..32 {
         a[i] = t[i];
-        i = i + 1;
     }
     a
 }
@@ -44,14 +43,14 @@ pub(crate) fn store(t: &mut [Record], a: [Record; 32])
     requires { length t.old ≡ 32 }
     ensures { t.new ≡ a }
 {
-    let mut i = 0;
-    while i < 32 {
+    // One by one, as in `load`.
+    for i in 0..32 {
         t[i] = a[i];
-        i = i + 1;
     }
 }
 
 // One event over the records lent: the answer, the records after it, and what it writes into the buffer.
+// Two thin functions, as document 01 asks: a closure for the one call that differs would be as long as either.
 pub fn step(t: &mut [Record], s: Settings, e: Event, frame: &[u8], out: &mut [u8]) -> Answer
     ensures { (result ≡ lent_answer t.old s e frame.now out.old) × ((t.new ≡ lent_table t.old s e frame.now out.old) × (out.new ≡ lent_in t.old s e frame.now out.old)) }
 {

@@ -24,14 +24,10 @@ fn clock(s: Settings, t: [Record; 32], d: u16, out: &mut [u8]) -> Clocked
 {
     let mut next = t;
     let mut n = 0;
-    let mut i = 0;
-    while i < 32 {
-        let p = next[i];
-        let q = tick(s, p, d);
+    for (i, p) in next.iter_mut().enumerate() {
+        let q = tick(s, *p, d);
         n = put_report(&mut *out, n, i as u8, q.report, p.address);
-        let after = q.peer;
-        next[i] = after;
-        i += 1;
+        *p = q.peer;
     }
     Clocked {
         table: next,
@@ -68,7 +64,7 @@ pub fn pass(s: Settings, t: [Record; 32], d: u16, out: &mut [u8]) -> Stepped
             answer: Answer::refusal(1),
         };
     }
-    if well_formed(s, t) {} else {
+    if !well_formed(s, t) {
         return Stepped {
             table: t,
             answer: Answer::refusal(2),

@@ -4,35 +4,28 @@ ghost use Rattle.peer.specs.Record.{free_of};
 ghost use Rattle.peer.specs.Association.{parted_of};
 ghost use Rattle.table.specs.Places.{find_link_of, find_of, first_from, has_link, seek_of};
 
-use crate::rules::seat::Found;
 use peer::association::parted;
 use peer::record::Record;
 
 // The lowest place with an address. Of 0: the lowest free place.
-pub fn find(addresses: &[u64], address: u64) -> Found
+pub fn find(addresses: &[u64], address: u64) -> Option<usize>
     ensures { result ≡ find_of addresses.now address }
 {
-    let mut i = 0;
-    while i < addresses.len() {
-        if addresses[i] == address {
-            return Found::At(i);
-        }
-        i += 1;
-    }
-    Found::Nothing
+    addresses.iter().position(|b| *b == address)
 }
 
 // The walk over places and links ends at the first match.
-fn first_link(t: [Record; 32], address: u64) -> Found
+// Nested loops left by a label: the form that document 01 names.
+fn first_link(t: [Record; 32], address: u64) -> Option<usize>
     ensures { result ≡ first_from (has_link address) 0 t }
 {
-    let mut found = Found::Nothing;
+    let mut found = None;
     'search: for i in 0..32 {
         let p = t[i];
         let links = p.links;
         for j in 0..4 {
             if links.at(j) == address {
-                found = Found::At(i);
+                found = Some(i);
                 break 'search;
             }
         }
@@ -41,23 +34,23 @@ fn first_link(t: [Record; 32], address: u64) -> Found
 }
 
 // The lowest place that has an address among its links. Of 0: none.
-pub fn find_link(t: [Record; 32], address: u64) -> Found
+pub fn find_link(t: [Record; 32], address: u64) -> Option<usize>
     ensures { result ≡ find_link_of t address }
 {
     if address == 0 {
-        return Found::Nothing;
+        return None;
     }
     first_link(t, address)
 }
 
-// The place of a frame's Address 2: among the links first, then the devices.
-pub fn seek(t: [Record; 32], addresses: &[u64], address: u64) -> Found
+// The place of a frame's Address 2: among the links first, then these addresses, whosever they are.
+#[tactic(auto, unfolding(crate::specs::Places::seek_of))]
+pub fn seek(t: [Record; 32], addresses: &[u64], address: u64) -> Option<usize>
     ensures { result ≡ seek_of t addresses.now address }
 {
-    let link = find_link(t, address);
-    match link {
-        Found::At(i) => Found::At(i),
-        Found::Nothing => find(addresses, address),
+    match find_link(t, address) {
+        Some(i) => Some(i),
+        None => find(addresses, address),
     }
 }
 
@@ -83,13 +76,5 @@ pub fn store(t: [Record; 32], i: usize, p: Record) -> [Record; 32]
 pub fn part_all(t: [Record; 32]) -> [Record; 32]
     ensures { result ≡ map parted_of t }
 {
-    let mut next = t;
-    let mut i = 0;
-    while i < 32 {
-        let p = next[i];
-        let q = parted(p);
-        next[i] = q;
-        i += 1;
-    }
-    next
+    t.map(parted)
 }

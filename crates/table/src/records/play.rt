@@ -1,34 +1,29 @@
 // One event played on thirty-two records by value, by the rules alone: settings and table are not checked.
-ghost use Rattle.std.specs.Prelude.{◌≡◌, length};
+ghost use Rattle.std.specs.Prelude.{◌≡◌, true, length};
 ghost use Rattle.table.specs.Others.{others_of};
 ghost use Rattle.table.specs.Places.{addresses_of};
-ghost use Rattle.table.specs.Ruled.{change_of, ruled_in, ruled_of};
+ghost use Rattle.table.specs.Ruled.{asking, change_of, ruled_in, ruled_of};
 ghost use Rattle.table.specs.Seat.{met_of};
 
-use crate::records::ask::asked_in;
-use crate::records::link::named_at;
+use crate::records::held::Held;
 use crate::records::pass::ticked;
-use crate::records::receive::heard_at;
 use crate::records::seat::{finish, met};
 use crate::rules::answer::{Answer, Stepped};
 use crate::rules::event::{Event, room, step_in, ticks};
 use crate::rules::others::{Counts, counted, first_joined, nobody, others};
-use crate::rules::read::read;
-use crate::rules::seat::{Change, refused};
+use crate::rules::play::change;
+use crate::rules::seat::Change;
 use peer::record::Record;
 use peer::refuse::Others;
-use peer::settings::{Settings, answers, associates};
+use peer::settings::{Settings, answers};
 
 // The address at each place.
 fn addresses_of(t: [Record; 32]) -> [u64; 32]
     ensures { result ≡ addresses_of t }
 {
     let mut addresses = [0u64; 32];
-    let mut i = 32;
-    while 0 < i {
-        i -= 1;
-        let p = t[i];
-        addresses[i] = p.address;
+    for i in (0..32).rev() {
+        addresses[i] = t[i].address;
     }
     addresses
 }
@@ -43,9 +38,7 @@ fn others_of(s: Settings, t: [Record; 32]) -> Others
     let mut associated = 0;
     let mut joined = 0;
     let mut associating = 0;
-    let mut i = 32;
-    while 0 < i {
-        i -= 1;
+    for i in (0..32).rev() {
         let p = t[i];
         let on = p.is_joined();
         associated = first_joined(on, p.address, associated);
@@ -59,24 +52,26 @@ fn others_of(s: Settings, t: [Record; 32]) -> Others
     others(s, associated, crowd)
 }
 
+// The same for an event: only a primitive asks it.
+fn others_for(s: Settings, t: [Record; 32], e: Event) -> Others
+    ensures { asking e ≡ true → result ≡ others_of s t }
+{
+    match e {
+        Event::Ask { .. } => others_of(s, t),
+        _ => nobody(),
+    }
+}
+
 // What an event other than a clock step makes of the table.
-fn change(s: Settings, t: [Record; 32], e: Event, frame: &[u8]) -> Change
+fn changed(s: Settings, t: [Record; 32], e: Event, frame: &[u8]) -> Change
     ensures { met_of t result ≡ change_of s t e frame.now }
 {
     let addresses = addresses_of(t);
-    match e {
-        Event::Frame => heard_at(s, t, &addresses, read(s.own, associates(s.role), frame)),
-        Event::Ask {
-            primitive,
-            address,
-            code,
-        } => {
-            let o = others_of(s, t);
-            asked_in(s, t, &addresses, o, primitive, address, code)
-        }
-        Event::Links => named_at(s, t, &addresses, frame),
-        Event::Clock(_) => refused(0),
-    }
+    let held = Held {
+        table: &t,
+        addresses: &addresses,
+    };
+    change(s, held, others_for(s, t, e), e, frame)
 }
 
 // An event: the table after it, the answer, and what it writes into the buffer. The octets of a frame, or of links, are lent beside it.
@@ -92,6 +87,6 @@ pub fn play(s: Settings, t: [Record; 32], e: Event, frame: &[u8], out: &mut [u8]
     if ticks(e) {
         return ticked(s, t, step_in(e), out);
     }
-    let c = change(s, t, e, frame);
+    let c = changed(s, t, e, frame);
     finish(met(t, c), out)
 }

@@ -5,18 +5,8 @@ ghost use Rattle.table.specs.Seat.{met_of, peer_of, stored_in};
 
 use crate::records::places::{look, part_all, store};
 use crate::rules::answer::{Met, Stepped};
-use crate::rules::seat::{Change, Found, answered};
+use crate::rules::seat::{Change, answered};
 use peer::record::Record;
-
-// The record of a peer, or a fresh one.
-pub fn peer_at(t: [Record; 32], at: Found, address: u64) -> Record
-    ensures { result ≡ peer_of t at address }
-{
-    match at {
-        Found::Nothing => Record::fresh(address),
-        Found::At(i) => look(t, i),
-    }
-}
 
 // The table with a record stored at a place, and any other parted where it is so.
 fn stored(t: [Record; 32], i: usize, p: Record, sole: bool) -> [Record; 32]
@@ -29,27 +19,29 @@ fn stored(t: [Record; 32], i: usize, p: Record, sole: bool) -> [Record; 32]
     }
 }
 
+// The record of a peer, or a fresh one.
+#[tactic(auto, unfolding(crate::specs::Seat::peer_of))]
+pub fn peer_at(t: [Record; 32], at: Option<usize>, address: u64) -> Record
+    ensures { result ≡ peer_of t at address }
+{
+    match at {
+        None => Record::fresh(address),
+        Some(i) => look(t, i),
+    }
+}
+
 // A table with a change.
 pub fn met(t: [Record; 32], c: Change) -> Met
     ensures { result ≡ met_of t c }
 {
-    let answer = c.answer;
-    let reply = c.reply;
-    let place = c.place;
-    match place {
-        Found::Nothing => Met {
-            table: t,
-            answer,
-            reply,
-        },
-        Found::At(i) => {
-            let p = c.peer;
-            Met {
-                table: stored(t, i, p, c.sole),
-                answer,
-                reply,
-            }
-        }
+    let table = match c.place {
+        None => t,
+        Some(i) => stored(t, i, c.peer, c.sole),
+    };
+    Met {
+        table,
+        answer: c.answer,
+        reply: c.reply,
     }
 }
 
@@ -58,10 +50,8 @@ pub fn finish(m: Met, out: &mut [u8]) -> Stepped
     ensures { (result ≡ stepped_of m (length out.old)) × (out.new ≡ said_in m.reply out.old) }
 {
     let table = m.table;
-    let answer = m.answer;
-    let reply = m.reply;
     Stepped {
         table,
-        answer: answered(answer, reply, out),
+        answer: answered(m.answer, m.reply, out),
     }
 }

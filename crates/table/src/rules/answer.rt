@@ -7,6 +7,7 @@ use peer::record::Record;
 use peer::reply::Reply;
 use peer::turn::Turn;
 
+// Numbers and no enums: this is what crosses to C, and `refusal` and `verdict` promise for any number.
 #[repr(C)]
 #[derive(Clone, Copy)]
 pub struct Answer {
@@ -33,6 +34,7 @@ pub struct Stepped {
 }
 
 // The same before the reply is written.
+// Another type than `Stepped`: definitions of what an event does give a `Met`, those of what a caller sees a `Stepped`.
 #[derive(Clone, Copy)]
 pub struct Met {
     pub table: [Record; 32],
@@ -41,19 +43,25 @@ pub struct Met {
 }
 
 impl Answer {
+    // Nothing refused, and nothing told.
+    const NOTHING: Answer = Answer {
+        current: 0,
+        code: 0,
+        written: 0,
+        refusal: 0,
+        verdict: 0,
+        notice: 0,
+        ds: 0,
+        state: 0,
+    };
+
     // A refusal: its number, and everything else zero.
     pub fn refusal(number: u8) -> Answer
         ensures { result ≡ refusal_answer number }
     {
         Answer {
-            current: 0,
-            code: 0,
-            written: 0,
             refusal: number,
-            verdict: 0,
-            notice: 0,
-            ds: 0,
-            state: 0,
+            ..Self::NOTHING
         }
     }
 
@@ -62,14 +70,8 @@ impl Answer {
         ensures { result ≡ verdict_answer verdict }
     {
         Answer {
-            current: 0,
-            code: 0,
-            written: 0,
-            refusal: 0,
             verdict,
-            notice: 0,
-            ds: 0,
-            state: 0,
+            ..Self::NOTHING
         }
     }
 
@@ -78,14 +80,8 @@ impl Answer {
         ensures { result ≡ record { current = 0; code = 0; written = 0; refusal = 0; verdict = admit; notice = 0; ds = 0; state = state } }
     {
         Answer {
-            current: 0,
-            code: 0,
-            written: 0,
-            refusal: 0,
-            verdict: Turn::ADMIT,
-            notice: 0,
-            ds: 0,
             state,
+            ..Self::verdict(Turn::ADMIT)
         }
     }
 
@@ -93,16 +89,14 @@ impl Answer {
     pub fn turn(t: Turn, state: u8) -> Answer
         ensures { result ≡ turn_answer t state }
     {
-        let told = t.told;
         Answer {
-            current: told.current,
-            code: told.code,
-            written: 0,
-            refusal: 0,
+            current: t.told.current,
+            code: t.told.code,
             verdict: t.verdict,
-            notice: told.notice,
+            notice: t.told.notice,
             ds: t.ds,
             state,
+            ..Self::NOTHING
         }
     }
 
@@ -110,15 +104,6 @@ impl Answer {
     pub fn count(self, written: u16) -> Answer
         ensures { result ≡ count_answer self written }
     {
-        Answer {
-            current: self.current,
-            code: self.code,
-            written,
-            refusal: self.refusal,
-            verdict: self.verdict,
-            notice: self.notice,
-            ds: self.ds,
-            state: self.state,
-        }
+        Answer { written, ..self }
     }
 }

@@ -18,13 +18,7 @@ const NO_DATA: u8 = 216;
 pub(crate) fn common(first: u8) -> bool
     ensures { result ≡ common_of first }
 {
-    if first == BEACON {
-        return true;
-    }
-    if first % 16 != 8 {
-        return false;
-    }
-    first != NO_DATA
+    first == BEACON || first % 16 == 8 && first != NO_DATA
 }
 
 // Whether a frame passes, and nothing is named for it: then it is admitted, and that is all.
@@ -33,12 +27,6 @@ pub(crate) fn quiet(role: u8, sort: Sort, state: u8, h: Heard) -> bool
 {
     match h {
         Heard::Other => passes_by(role, sort, state),
-        Heard::Authentication { .. } => false,
-        Heard::Deauthentication(_) => false,
-        Heard::Disassociation(_) => false,
-        Heard::Request { .. } => false,
-        Heard::Response { .. } => false,
-        Heard::QueryRequest(_) => false,
-        Heard::QueryResponse(_) => false,
+        _ => false,
     }
 }

@@ -5,6 +5,7 @@ ghost use Rattle.table.specs.Ruled.{ticking, tu_of};
 
 use octets::frame::Frame;
 
+// The octets stand beside an event and a primitive may be any number (S16): `step_of`, `host_answer` and `why_at` take them so.
 #[derive(Clone, Copy)]
 pub enum Event {
     // A frame, whose octets are lent beside the event.
@@ -25,10 +26,8 @@ pub(crate) fn room(e: Event) -> usize
     ensures { result ≡ room_of e }
 {
     match e {
-        Event::Frame => Frame::LONGEST,
-        Event::Ask { .. } => Frame::LONGEST,
-        Event::Links => Frame::LONGEST,
         Event::Clock(_) => 256,
+        _ => Frame::LONGEST,
     }
 }
 
@@ -36,21 +35,14 @@ pub(crate) fn room(e: Event) -> usize
 pub(crate) fn ticks(e: Event) -> bool
     ensures { result ≡ ticking e }
 {
-    match e {
-        Event::Frame => false,
-        Event::Ask { .. } => false,
-        Event::Links => false,
-        Event::Clock(_) => true,
-    }
+    matches!(e, Event::Clock(_))
 }
 
 pub(crate) fn step_in(e: Event) -> u16
     ensures { result ≡ tu_of e }
 {
     match e {
-        Event::Frame => 0,
-        Event::Ask { .. } => 0,
-        Event::Links => 0,
         Event::Clock(d) => d,
+        _ => 0,
     }
 }

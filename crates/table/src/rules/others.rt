@@ -35,13 +35,7 @@ pub(crate) fn first_joined(joined: bool, address: u64, behind: u64) -> u64
 pub(crate) fn sparse(s: Settings, c: Counts) -> bool
     ensures { result ≡ (role_answers s.role || (leb c.joined 1 && leb c.associating 1)) }
 {
-    if answers(s.role) {
-        return true;
-    }
-    if 1 < c.joined {
-        return false;
-    }
-    c.associating <= 1
+    answers(s.role) || c.joined <= 1 && c.associating <= 1
 }
 
 // No peer is in State 3 or 4, none has a (re)association under way.

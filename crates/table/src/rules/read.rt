@@ -18,6 +18,7 @@ use octets::sort::{Sort, sorted};
 #[derive(Clone, Copy)]
 pub enum Reading {
     // A refusal number.
+    // Any: `heard_at` and `frame_why` say of any what comes of it.
     Refused(u8),
     // Discard, nothing else.
     Discarded,
@@ -36,10 +37,7 @@ pub enum Reading {
 fn for_us(own: u64, to: u64) -> bool
     ensures { result ≡ for_us own to }
 {
-    if to == own {
-        return true;
-    }
-    group(to)
+    to == own || group(to)
 }
 
 fn read_bare(own: u64, frame: &[u8]) -> Reading
@@ -71,7 +69,7 @@ fn read_full(own: u64, infrastructure: bool, frame: &[u8]) -> Reading
     ensures { result ≡ read_full own infrastructure frame.now }
 {
     let to = address_at(frame, 4);
-    if for_us(own, to) {} else {
+    if !for_us(own, to) {
         return Reading::Refused(4);
     }
     let peer = address_at(frame, 10);
@@ -89,7 +87,8 @@ fn read_full(own: u64, infrastructure: bool, frame: &[u8]) -> Reading
 fn at_once(own: u64, infrastructure: bool, frame: &[u8]) -> bool
     ensures { result ≡ true → read_of own infrastructure frame.now ≡ reading.From (field 6 10 frame.now) (group_of (field 6 4 frame.now)) (sort.Listed (field 1 0 frame.now)) heard.Other }
 {
-    if infrastructure {} else {
+    // Test by test: as one chain of `&&` the check did not prove it.
+    if !infrastructure {
         return false;
     }
     if frame.len() < 24 {
@@ -98,10 +97,10 @@ fn at_once(own: u64, infrastructure: bool, frame: &[u8]) -> bool
     if 4096 < frame.len() {
         return false;
     }
-    if common(octet_at(frame, 0)) {} else {
+    if !common(octet_at(frame, 0)) {
         return false;
     }
-    if for_us(own, address_at(frame, 4)) {} else {
+    if !for_us(own, address_at(frame, 4)) {
         return false;
     }
     let from = address_at(frame, 10);

@@ -2,7 +2,6 @@
 ghost use Rattle.std.specs.Prelude.{◌≡◌, List, length};
 ghost use Rattle.peer.specs.declared.record.Record.{Record as Peer};
 ghost use Rattle.table.specs.Answer.{said_length, said_in, settled_of, refused_of, count_answer};
-ghost use Rattle.table.specs.Places.{is_found};
 ghost use Rattle.table.specs.Seat.{met_of, seated_of, stranger_of, starts_of, newcomer_of, turn_in};
 
 use crate::rules::answer::Answer;
@@ -12,28 +11,12 @@ use peer::record::Record;
 use peer::reply::Reply;
 use peer::turn::Turn;
 
-#[derive(Clone, Copy)]
-pub enum Found {
-    At(usize),
-    Nothing,
-}
-
-impl Found {
-    pub fn is_found(self) -> bool
-        ensures { result ≡ is_found self }
-    {
-        match self {
-            Found::At(_) => true,
-            Found::Nothing => false,
-        }
-    }
-}
-
 // What an event makes of a table, and what is said.
+// Place, record and `sole` side by side, as `met_of` reads them.
 #[derive(Clone, Copy)]
 pub struct Change {
     // Where the record is stored, if it is.
-    pub place: Found,
+    pub place: Option<usize>,
     pub peer: Record,
     // Any other record in State 3 or 4 goes to State 2.
     pub sole: bool,
@@ -46,7 +29,7 @@ fn kept(answer: Answer, reply: Reply) -> Change
     ensures { (t : List Peer) → met_of t result ≡ record { table = t; answer = answer; reply = reply } }
 {
     Change {
-        place: Found::Nothing,
+        place: None,
         peer: Record::free(),
         sole: false,
         answer,
@@ -58,7 +41,7 @@ fn kept(answer: Answer, reply: Reply) -> Change
 pub(crate) fn settled(answer: Answer) -> Change
     ensures { (t : List Peer) → met_of t result ≡ settled_of t answer }
 {
-    kept(answer, Reply::Silent)
+    kept(answer, None)
 }
 
 pub(crate) fn refused(number: u8) -> Change
@@ -71,14 +54,12 @@ pub(crate) fn refused(number: u8) -> Change
 fn seated(i: usize, turn: Turn) -> Change
     ensures { (t : List Peer) → met_of t result ≡ seated_of t i turn }
 {
-    let peer = turn.peer;
-    let reply = turn.reply;
     Change {
-        place: Found::At(i),
-        peer,
+        place: Some(i),
+        peer: turn.peer,
         sole: turn.sole,
-        answer: Answer::turn(turn, peer.state),
-        reply,
+        answer: Answer::turn(turn, turn.peer.state),
+        reply: turn.reply,
     }
 }
 
@@ -86,31 +67,24 @@ fn seated(i: usize, turn: Turn) -> Change
 fn stranger(turn: Turn) -> Change
     ensures { (t : List Peer) → met_of t result ≡ stranger_of t turn }
 {
-    let reply = turn.reply;
-    kept(Answer::turn(turn, 0), reply)
+    kept(Answer::turn(turn, 0), turn.reply)
 }
 
 // Whether a turn leaves an exchange under way, or links, so that a stranger needs a record.
 pub fn starts(turn: Turn) -> bool
     ensures { result ≡ starts_of turn }
 {
-    let p = turn.peer;
-    let e = p.exchange;
-    if under_way(e) != 0 {
-        return true;
-    }
-    let links = p.links;
-    if links.is_none() { false } else { true }
+    under_way(turn.peer.exchange) != 0 || !turn.peer.links.is_none()
 }
 
 // A turn of a peer that has no record: a new one takes the lowest free place; where there is none, the other turn.
-fn newcomer(free: Found, turn: Turn, full: Turn) -> Change
+fn newcomer(free: Option<usize>, turn: Turn, full: Turn) -> Change
     ensures { (t : List Peer) → met_of t result ≡ newcomer_of t free turn full }
 {
     if starts(turn) {
         match free {
-            Found::Nothing => stranger(full),
-            Found::At(i) => seated(i, turn),
+            None => stranger(full),
+            Some(i) => seated(i, turn),
         }
     } else {
         stranger(turn)
@@ -118,12 +92,12 @@ fn newcomer(free: Found, turn: Turn, full: Turn) -> Change
 }
 
 // A turn of the peer found at a place, or nowhere, with the lowest free place.
-pub(crate) fn turn_in(free: Found, at: Found, turn: Turn, full: Turn) -> Change
+pub(crate) fn turn_in(free: Option<usize>, at: Option<usize>, turn: Turn, full: Turn) -> Change
     ensures { (t : List Peer) → met_of t result ≡ turn_in t at free turn full }
 {
     match at {
-        Found::Nothing => newcomer(free, turn, full),
-        Found::At(i) => seated(i, turn),
+        None => newcomer(free, turn, full),
+        Some(i) => seated(i, turn),
     }
 }
 
@@ -132,8 +106,8 @@ fn say(reply: Reply, out: &mut [u8]) -> u16
     ensures { (result ≡ said_length reply (length out.old)) × (out.new ≡ said_in reply out.old) }
 {
     match reply {
-        Reply::Silent => 0,
-        Reply::Send(f) => write(out, f),
+        None => 0,
+        Some(f) => write(out, f),
     }
 }
 

@@ -13,12 +13,12 @@ returns-then-count-eq0 t c = rw (c.if-count-eq0.true, numbers_none) (omega arith
 pub put_numbers-requires : goal.put_numbers-requires
 put_numbers-requires t c =
     let e = c.put_number-next.ensures.0 in
-    let g = number_length c.look-t.result in
+    let g = number_length c.look.result in
     (omega arith, (omega arith, omega arith))
 
 pub returns : goal.returns
 returns t c =
     let e1 = c.put_number-next.ensures.0 in
     let e2 = c.put_numbers.ensures.0 in
-    rw (numbers_more c.args.b c.args.first c.args.count c.if-count-eq0.false, ← c.look-t.ensures)
+    rw (numbers_more c.args.b c.args.first c.args.count c.if-count-eq0.false, ← c.look.ensures)
     (simp length-append (omega arith), then c.put_number-next.ensures.1 c.put_numbers.ensures.1 (omega arith))

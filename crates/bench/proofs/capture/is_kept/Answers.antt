@@ -1,13 +1,14 @@
 -- `bench::capture::is_kept` meets its contract: by its tests.
 -- Assumes nothing.
+use Rattle.std.proofs.lemmas.Bool.Decides.{nat_tests}
+use native.Mathlib.Omega.{arith}
 use Rattle.bench.specs.Capture.{keeps_of}
-use Rattle.octets.proofs.Branch.{tests}
 use Rattle.bench.proofs.capture.is_kept.Goals as goal
 
-pub returns-then-captured-original : goal.returns-then-captured-original
+pub returns-then-original-captured : goal.returns-then-original-captured
 unfolding keeps_of
-returns-then-captured-original c = search tests
+returns-then-original-captured c = grind (arith, nat_tests)
 
-pub returns : goal.returns
+pub returns-else-original-captured : goal.returns-else-original-captured
 unfolding keeps_of
-returns c = search tests
+returns-else-original-captured c = grind (arith, nat_tests)

@@ -1,13 +1,14 @@
 -- `bench::capture::is_numbered` meets its contract: by the number in one order, then in the other.
 -- Assumes nothing.
+use Rattle.std.proofs.lemmas.Bool.Decides.{nat_tests}
+use native.Mathlib.Omega.{arith}
 use Rattle.bench.specs.Capture.{numbered}
-use Rattle.octets.proofs.Branch.{tests}
 use Rattle.bench.proofs.capture.is_numbered.Goals as goal
 
 pub returns-then-is_big : goal.returns-then-is_big
 unfolding numbered
-returns-then-is_big c = search (tests, ← c.is_big.ensures, c.if-is_big.true)
+returns-then-is_big c = grind (arith, nat_tests)
 
-pub returns : goal.returns
+pub returns-else-is_big : goal.returns-else-is_big
 unfolding numbered
-returns c = search (tests, ← c.number_at.ensures, c.if-is_big.false, ← c.is_big.ensures)
+returns-else-is_big c = grind (arith, nat_tests)

@@ -3,28 +3,20 @@
 use Rattle.bench.proofs.ChangedRows.{changed_end, changed_step}
 use Rattle.table.proofs.Octets.RowLaws.{length_records}
 use Rattle.table.specs.Rows.{records_of}
-use borrow.Author.Rules.{rules}
 use lib.ListN.{length}
-use mathlib.Core.Path.{◌≡◌, refl}
+use mathlib.Core.Path.{◌≡◌}
 use native.Mathlib.Omega.{arith}
 use Rattle.bench.proofs.changes.show_changed.Goals as goal
 
-pub loop-i-init : goal.loop-i-init
-loop-i-init c = (search rules, c.requires.0, c.requires.1, refl, refl)
-
-pub show_row-at-requires : goal.show_row-at-requires
-show_row-at-requires c = let l = c.loop-i in (search rules, l.invariant.1, l.invariant.2)
-
 pub loop-i-preserved : goal.loop-i-preserved
 loop-i-preserved c =
-    let l = c.loop-i in
     let a = c.args in
     let t : length (records_of a.before.now) ≡ 32 = length_records 32 0 a.before.now in
     let u : length (records_of a.after.now) ≡ 32 = length_records 32 0 a.after.now in
-    (search rules, l.invariant.1, l.invariant.2, search rules, changed_step (records_of a.before.now) (records_of a.after.now) l.i _ _ _ (omega arith) (omega arith) c.show_row-at.ensures l.invariant.4)
+    changed_step (records_of a.before.now) (records_of a.after.now) c.loop-i.i _ _ _ (omega arith) (omega arith) c.show_row-at.ensures c.loop-i.invariant
 
 pub returns : goal.returns
 returns c =
     let a = c.args in
     let t : length (records_of a.before.now) ≡ 32 = length_records 32 0 a.before.now in
-    changed_end (records_of a.before.now) (records_of a.after.now) c.loop-i.i _ _ (omega arith) c.loop-i.invariant.4
+    changed_end (records_of a.before.now) (records_of a.after.now) c.loop-i.i _ _ (omega arith) c.loop-i.invariant

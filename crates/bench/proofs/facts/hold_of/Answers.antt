@@ -8,6 +8,6 @@ pub returns-then-set : goal.returns-then-set
 unfolding hold_of
 returns-then-set c = search (tests, ← c.hold_set.ensures, c.if-set.true)
 
-pub returns : goal.returns
+pub returns-else-set : goal.returns-else-set
 unfolding hold_of
-returns c = search (tests, c.if-set.false)
+returns-else-set c = search (tests, c.if-set.false)

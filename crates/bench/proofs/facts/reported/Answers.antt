@@ -7,18 +7,6 @@ use Rattle.bench.proofs.facts.reported.Goals as goal
 pub loop-i-init : goal.loop-i-init
 loop-i-init c = (reports_start _ _, omega arith, omega arith)
 
-pub bounds-reports-i : goal.bounds-reports-i
-bounds-reports-i c = omega arith
-
-pub overflow_add-count : goal.overflow_add-count
-overflow_add-count c = omega arith
-
-pub overflow_add-i : goal.overflow_add-i
-overflow_add-i c = omega arith
-
-pub loop-i-smaller : goal.loop-i-smaller
-loop-i-smaller c = omega arith
-
 pub loop-i-preserved : goal.loop-i-preserved
 loop-i-preserved c = (reports_step _ _ _ _ _ c.loop-i-test.true c.one-count.ensures.0 c.loop-i.invariant.0, omega arith, c.loop-i.invariant.2)
 

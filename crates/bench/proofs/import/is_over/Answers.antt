@@ -1,20 +1,14 @@
 -- `bench::import::is_over` meets its contract: by the stage.
 -- Assumes nothing.
+use Rattle.std.proofs.lemmas.Bool.Decides.{nat_tests}
+use native.Mathlib.Omega.{arith}
 use Rattle.bench.specs.Importer.{is_over}
 use Rattle.bench.proofs.import.is_over.Goals as goal
 
 pub returns-in-Over : goal.returns-in-Over
 unfolding is_over
-returns-in-Over c = rw c.in-Over.is
+returns-in-Over c = grind (arith, nat_tests)
 
-pub returns-in-Head : goal.returns-in-Head
+pub returns-in_default : goal.returns-in_default
 unfolding is_over
-returns-in-Head c = rw c.in-Head.is
-
-pub returns-in-Between : goal.returns-in-Between
-unfolding is_over
-returns-in-Between c = rw c.in-Between.is
-
-pub returns-in-Passing : goal.returns-in-Passing
-unfolding is_over
-returns-in-Passing c = rw c.in-Passing.is
+returns-in_default c = grind (arith, nat_tests)

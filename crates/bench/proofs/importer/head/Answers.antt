@@ -8,14 +8,14 @@ pub returns-then-xs-lt24 : goal.returns-then-xs-lt24
 unfolding head_front
 returns-then-xs-lt24 c = rw (lt-ltb _ _ c.if-xs-lt24.true)
 
-pub returns-else-is_numbered : goal.returns-else-is_numbered
+pub returns-then-not-is_numbered : goal.returns-then-not-is_numbered
 unfolding head_front
-returns-else-is_numbered c = rw (le-ltb _ _ c.if-xs-lt24.false, ← c.is_numbered.ensures, c.if-is_numbered.false)
+returns-then-not-is_numbered c = rw (le-ltb _ _ c.if-xs-lt24.false, ← c.is_numbered.ensures, c.if-not-is_numbered.true)
 
-pub returns-else-is_linked : goal.returns-else-is_linked
+pub returns-then-not-is_linked : goal.returns-then-not-is_linked
 unfolding head_front
-returns-else-is_linked c = rw (le-ltb _ _ c.if-xs-lt24.false, ← c.is_numbered.ensures, c.if-is_numbered.true, ← c.is_linked.ensures, c.if-is_linked.false)
+returns-then-not-is_linked c = rw (le-ltb _ _ c.if-xs-lt24.false, ← c.is_numbered.ensures, c.if-not-is_numbered.false, ← c.is_linked.ensures, c.if-not-is_linked.true)
 
 pub returns : goal.returns
 unfolding head_front
-returns c = rw (le-ltb _ _ c.if-xs-lt24.false, ← c.is_numbered.ensures, c.if-is_numbered.true, ← c.is_linked.ensures, c.if-is_linked.true, ← c.is_big.ensures)
+returns c = rw (le-ltb _ _ c.if-xs-lt24.false, ← c.is_numbered.ensures, c.if-not-is_numbered.false, ← c.is_linked.ensures, c.if-not-is_linked.false, ← c.is_big.ensures)

@@ -1,17 +1,18 @@
--- `bench::line::verdict_letter` meets its contract: each answer by the tests that led to it.
+-- `bench::line::verdict_letter` meets its contract: by its cases.
 -- Assumes nothing.
+use Rattle.std.proofs.lemmas.Bool.Decides.{nat_tests}
+use native.Mathlib.Omega.{arith}
 use Rattle.bench.specs.Line.{verdict_letter}
-use Rattle.octets.proofs.Branch.{tests}
 use Rattle.bench.proofs.line.verdict_letter.Goals as goal
 
-pub returns-then-verdict-eq1 : goal.returns-then-verdict-eq1
+pub returns-in-1 : goal.returns-in-1
 unfolding verdict_letter
-returns-then-verdict-eq1 c = search tests
+returns-in-1 c = grind (arith, nat_tests)
 
-pub returns-then-verdict-eq2 : goal.returns-then-verdict-eq2
+pub returns-in-2 : goal.returns-in-2
 unfolding verdict_letter
-returns-then-verdict-eq2 c = search tests
+returns-in-2 c = grind (arith, nat_tests)
 
-pub returns : goal.returns
+pub returns-in_default : goal.returns-in_default
 unfolding verdict_letter
-returns c = search tests
+returns-in_default c = grind (arith, nat_tests)

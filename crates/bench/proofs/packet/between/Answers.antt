@@ -12,19 +12,19 @@ pub returns-then-xs-lt16 : goal.returns-then-xs-lt16
 unfolding between_front
 returns-then-xs-lt16 c = rw (lt-ltb _ _ c.if-xs-lt16.true) (idle refl refl)
 
-pub returns-else-is_kept : goal.returns-else-is_kept
+pub returns-then-not-is_kept : goal.returns-then-not-is_kept
 unfolding between_front
-returns-else-is_kept c = rw (le-ltb _ _ c.if-xs-lt16.false, ← c.number_at-captured.ensures, ← c.number_at-original.ensures, ← c.is_kept.ensures, c.if-is_kept.false, ← c.time_at.ensures, ← c.moved-c.ensures) (idle refl refl)
+returns-then-not-is_kept c = rw (le-ltb _ _ c.if-xs-lt16.false, ← c.number_at-captured.ensures, ← c.number_at-original.ensures, ← c.is_kept.ensures, c.if-not-is_kept.true, ← c.time_at.ensures, ← c.moved-c.ensures) (idle refl refl)
 
 pub returns-then-xs-size : goal.returns-then-xs-size
 unfolding between_front
-returns-then-xs-size c = rw (le-ltb _ _ c.if-xs-lt16.false, ← c.number_at-captured.ensures, ← c.number_at-original.ensures, ← c.is_kept.ensures, c.if-is_kept.true, lt-ltb _ _ c.if-xs-size.true) (idle refl refl)
+returns-then-xs-size c = rw (le-ltb _ _ c.if-xs-lt16.false, ← c.number_at-captured.ensures, ← c.number_at-original.ensures, ← c.is_kept.ensures, c.if-not-is_kept.false, lt-ltb _ _ c.if-xs-size.true) (idle refl refl)
 
 pub keep-requires : goal.keep-requires
 keep-requires c =
     record {
       at_in_bounds = omega arith;
-      octets_len_bound = part_short c.number_at-captured.result c.number_at-original.result c.args.xs.now c.if-xs-lt16.false c.if-xs-size.false (sym c.is_kept.ensures ∙ c.if-is_kept.true);
+      octets_len_bound = part_short c.number_at-captured.result c.number_at-original.result c.args.xs.now c.if-xs-lt16.false c.if-xs-size.false (sym c.is_kept.ensures ∙ c.if-not-is_kept.false);
       n_value = c.due.ensures;
     }
 
@@ -33,4 +33,4 @@ unfolding between_front
 returns c =
     let n = c.number_at-captured.result in
     let z : 16 + n - 16 ≡ n = omega arith in
-    rw (le-ltb _ _ c.if-xs-lt16.false, ← c.number_at-captured.ensures, ← c.number_at-original.ensures, ← c.is_kept.ensures, c.if-is_kept.true, le-ltb _ _ c.if-xs-size.false, ← c.time_at.ensures, ← c.moved-c.ensures, ← c.due.ensures) (rw z at c.keep.ensures)
+    rw (le-ltb _ _ c.if-xs-lt16.false, ← c.number_at-captured.ensures, ← c.number_at-original.ensures, ← c.is_kept.ensures, c.if-not-is_kept.false, le-ltb _ _ c.if-xs-size.false, ← c.time_at.ensures, ← c.moved-c.ensures, ← c.due.ensures) (rw z at c.keep.ensures)

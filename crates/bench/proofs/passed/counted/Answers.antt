@@ -1,13 +1,14 @@
 -- `bench::passed::counted` meets its contract: by its one test, and what `one_more` ensures.
 -- Assumes nothing.
+use Rattle.std.proofs.lemmas.Bool.Decides.{nat_tests}
+use native.Mathlib.Omega.{arith}
 use Rattle.bench.specs.Import.{counted_of}
-use Rattle.octets.proofs.Branch.{tests}
 use Rattle.bench.proofs.passed.counted.Goals as goal
 
 pub returns-then-kept : goal.returns-then-kept
 unfolding counted_of
-returns-then-kept c = search (tests, ← c.one_more-packets.ensures, c.if-kept.true)
+returns-then-kept c = grind (arith, nat_tests)
 
-pub returns : goal.returns
+pub returns-else-kept : goal.returns-else-kept
 unfolding counted_of
-returns c = search (tests, ← c.one_more.ensures, c.if-kept.false, ← c.one_more-packets.ensures)
+returns-else-kept c = grind (arith, nat_tests)

@@ -1,17 +1,14 @@
--- `bench::passed::moved` meets its contract: by its tests.
+-- `bench::passed::moved` meets its contract: by its test; the later of two times is the larger.
 -- Assumes nothing.
+use Rattle.std.proofs.lemmas.Bool.Decides.{nat_tests}
+use native.Mathlib.Omega.{arith}
 use Rattle.bench.specs.Import.{moved_of}
-use borrow.Author.Tests.{le-ltb, lt-ltb}
 use Rattle.bench.proofs.passed.moved.Goals as goal
 
-pub returns-else-c : goal.returns-else-c
+pub returns-then-not-c : goal.returns-then-not-c
 unfolding moved_of
-returns-else-c c = rw c.if-c.false
-
-pub returns-then-c-time : goal.returns-then-c-time
-unfolding moved_of
-returns-then-c-time c = rw (c.if-c.true, lt-ltb _ _ c.if-c-time.true)
+returns-then-not-c c = grind (arith, nat_tests)
 
 pub returns : goal.returns
 unfolding moved_of
-returns c = rw (c.if-c.true, le-ltb _ _ c.if-c-time.false)
+returns c = grind (arith, nat_tests)

@@ -1,13 +1,10 @@
--- `bench::passed::one_more` meets its contract: by its one test.
+-- `bench::passed::one_more` meets its contract: the sum stops at the highest number.
 -- Assumes nothing.
+use Rattle.std.proofs.lemmas.Bool.Decides.{nat_tests}
+use native.Mathlib.Omega.{arith}
 use Rattle.bench.specs.Play.{number_after}
-use Rattle.octets.proofs.Branch.{tests}
 use Rattle.bench.proofs.passed.one_more.Goals as goal
 
-pub returns-then-n-eq18446744073709551615 : goal.returns-then-n-eq18446744073709551615
+pub returns : goal.returns
 unfolding number_after
-returns-then-n-eq18446744073709551615 c = search tests
-
-pub returns-else-n-eq18446744073709551615 : goal.returns-else-n-eq18446744073709551615
-unfolding number_after
-returns-else-n-eq18446744073709551615 c = search tests
+returns c = grind (arith, nat_tests)

@@ -30,7 +30,7 @@ returns-in-Ok g c =
     let k : length c.shift-left.new.input ≡ length s = c.shift-left.auto.input in
     let h : c.shift-left.result ≤ length c.shift-left.new.input = omega (arith, left_le r.at r.have (length s)) in
     more c.in-Ok.n
-    (refilled r c.in-Ok.n c.shift-left.result _ (length s) c.behind.result c.behind.ensures (same_len_mid c.shift-left.result (length c.shift-left.new.input - c.shift-left.result) c.shift-left.new.input c.read.new.buf c.read.auto.buf ∙ k) e)
+    (refilled r c.in-Ok.n c.shift-left.result _ (length s) c.behind-have.result c.behind-have.ensures (same_len_mid c.shift-left.result (length c.shift-left.new.input - c.shift-left.result) c.shift-left.new.input c.read.new.buf c.read.auto.buf ∙ k) e)
     (front_kept c.shift-left.new.input _ (shifted_of r.at r.have s) c.shift-left.result (left_of r.at r.have (length s)) h e c.shift-left.ensures.1)
 
 pub returns-in-Err : goal.returns-in-Err

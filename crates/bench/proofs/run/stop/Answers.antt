@@ -7,4 +7,4 @@ use Rattle.bench.proofs.run.stop.Goals as goal
 
 pub returns : goal.returns
 unfolding done_of
-returns c = (c.finish.ensures ∙ ap (λ (o : Output). done_of c.args.r o.filled) c.write_stop.ensures, ap (λ (o : Output). o.octets) c.write_stop.ensures)
+returns c = (c.finish.ensures ∙ ap (λ (o : Output). done_of c.args.r o.filled) c.write_stop-out.ensures, ap (λ (o : Output). o.octets) c.write_stop-out.ensures)

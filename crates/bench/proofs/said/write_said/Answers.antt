@@ -6,13 +6,13 @@ use borrow.Author.Tests.{leb-true}
 use mathlib.Core.Path.{sym, ◌∙◌}
 use Rattle.bench.proofs.said.write_said.Goals as goal
 
-pub returns-else-has_room : goal.returns-else-has_room
-returns-else-has_room c = put_none _ _ (sym c.has_room.ensures ∙ c.if-has_room.false)
+pub returns-then-not-has_room : goal.returns-then-not-has_room
+returns-then-not-has_room c = put_none _ _ (sym c.has_room.ensures ∙ c.if-not-has_room.true)
 
 pub put_said-requires : goal.put_said-requires
-put_said-requires c = leb-true _ _ (sym c.has_room.ensures ∙ c.if-has_room.true)
+put_said-requires c = leb-true _ _ (sym c.has_room.ensures ∙ c.if-not-has_room.false)
 
 pub returns : goal.returns
 returns c =
     let a = c.args in
-    put_stored 64 _ c.put_said.ensures.1 (leb-true _ _ (sym c.has_room.ensures ∙ c.if-has_room.true)) (said_length_lem a.said) c.put_said.ensures.0
+    put_stored 64 _ c.put_said.ensures.1 (leb-true _ _ (sym c.has_room.ensures ∙ c.if-not-has_room.false)) (said_length_lem a.said) c.put_said.ensures.0

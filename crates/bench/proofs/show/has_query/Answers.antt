@@ -1,13 +1,14 @@
 -- `bench::show::has_query` meets its contract: by the identifier, or by the query's number.
 -- Assumes nothing.
+use Rattle.std.proofs.lemmas.Bool.Decides.{nat_tests}
+use native.Mathlib.Omega.{arith}
 use Rattle.bench.specs.Trace.{has_query}
-use Rattle.octets.proofs.Branch.{tests}
 use Rattle.bench.proofs.show.has_query.Goals as goal
 
 pub returns-then-p-ne0 : goal.returns-then-p-ne0
 unfolding has_query
-returns-then-p-ne0 c = search tests
+returns-then-p-ne0 c = grind (arith, nat_tests)
 
-pub returns : goal.returns
+pub returns-else-p-ne0 : goal.returns-else-p-ne0
 unfolding has_query
-returns c = search (tests, ← c.query_number.ensures, c.if-p-ne0.false)
+returns-else-p-ne0 c = grind (arith, nat_tests)

@@ -7,10 +7,6 @@ use lib.ListN.{length-append}
 use native.Mathlib.Omega.{arith}
 use Rattle.bench.proofs.text.put_field.Goals as goal
 
-pub put_tens-next-requires : goal.put_tens-next-requires
-unfolding field_of
-put_tens-next-requires c = omega arith
-
 pub put_octet-requires : goal.put_octet-requires
 unfolding field_of
 put_octet-requires c = omega (arith, tens_length c.args.k c.args.n, c.put_tens-next.ensures.0)

@@ -11,16 +11,16 @@ use mathlib.Core.Path.{sym, ◌∙◌}
 use native.Mathlib.Omega.{arith}
 use Rattle.bench.proofs.trace.write_place.Goals as goal
 
-pub returns-else-has_room : goal.returns-else-has_room
-returns-else-has_room c = put_none _ _ (sym c.has_room.ensures ∙ c.if-has_room.false)
+pub returns-then-not-has_room : goal.returns-then-not-has_room
+returns-then-not-has_room c = put_none _ _ (sym c.has_room.ensures ∙ c.if-not-has_room.true)
 
 pub put_name-next-requires : goal.put_name-next-requires
-put_name-next-requires c = leb-true _ _ (sym c.has_room.ensures ∙ c.if-has_room.true)
+put_name-next-requires c = leb-true _ _ (sym c.has_room.ensures ∙ c.if-not-has_room.false)
 
 pub put_times-requires : goal.put_times-requires
 put_times-requires c =
     let a = c.args in
-    let r : a.at + 64 ≤ length a.out.now = leb-true _ _ (sym c.has_room.ensures ∙ c.if-has_room.true) in
+    let r : a.at + 64 ≤ length a.out.now = leb-true _ _ (sym c.has_room.ensures ∙ c.if-not-has_room.false) in
     omega (arith, c.put_name-next.ensures.0, name_length a.place a.p)
 
 pub returns : goal.returns
@@ -31,4 +31,4 @@ returns c =
     let f = c.put_times.ensures.0 in
     let g = name_length a.place a.p in
     let h = times_length a.p in
-    put_stored 64 _ (then c.put_name-next.ensures.1 c.put_times.ensures.1 (omega arith)) (leb-true _ _ (sym c.has_room.ensures ∙ c.if-has_room.true)) (simp length-append (omega arith)) (simp length-append (omega arith))
+    put_stored 64 _ (then c.put_name-next.ensures.1 c.put_times.ensures.1 (omega arith)) (leb-true _ _ (sym c.has_room.ensures ∙ c.if-not-has_room.false)) (simp length-append (omega arith)) (simp length-append (omega arith))

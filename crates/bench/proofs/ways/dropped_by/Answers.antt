@@ -12,12 +12,3 @@ returns-then-verdict-ne-DISCARD c = λ f h. search (tests, c.in-Frame.is, c.if-v
 
 pub returns-else-verdict-ne-DISCARD : goal.returns-else-verdict-ne-DISCARD
 returns-else-verdict-ne-DISCARD c = λ f h. c.reason_number.ensures ∙ (ap (λ (w : Why). reason_number w.reason) (c.why_on-w.ensures f h) ∙ sym (dropped_frame _ _ c.in-Frame.is c.if-verdict-ne-DISCARD.false))
-
-pub returns-in-Ask : goal.returns-in-Ask
-returns-in-Ask c = λ f h. rw c.in-Ask.is
-
-pub returns-in-Links : goal.returns-in-Links
-returns-in-Links c = λ f h. rw c.in-Links.is
-
-pub returns-in-Clock : goal.returns-in-Clock
-returns-in-Clock c = λ f h. rw c.in-Clock.is

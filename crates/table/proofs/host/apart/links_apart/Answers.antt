@@ -23,25 +23,22 @@ loop-k-init c =
 pub link_at-l-requires : goal.link_at-l-requires
 link_at-l-requires c = omega (arith, c.loop-k-test.true, c.loop-k.invariant.0)
 
-pub broad-m-requires : goal.broad-m-requires
-broad-m-requires c = tt
-
 pub bounds-marks-m : goal.bounds-marks-m
 bounds-marks-m c = omega (arith, c.broad-m.ensures)
 
 pub alone-requires : goal.alone-requires
 alone-requires c = omega (arith, c.loop-k-test.true, c.loop-k.invariant.0)
 
-pub returns-else-alone : goal.returns-else-alone
-returns-else-alone c =
-    not_apart _ _ _ _ c.loop-k.invariant.1 c.loop-k-test.true _ c.link_at-l.ensures (ne_eqb _ _ c.if-l-ne0.true) _ c.broad-m.ensures (sym c.alone.ensures ∙ c.if-alone.false)
+pub returns-then-not-alone : goal.returns-then-not-alone
+returns-then-not-alone c =
+    not_apart _ _ _ _ c.loop-k.invariant.1 c.loop-k-test.true _ c.link_at-l.ensures (ne_eqb _ _ c.if-l-ne0.true) _ c.broad-m.ensures (sym c.alone.ensures ∙ c.if-not-alone.true)
 
 pub bounds-marks-m-then-l-ne0 : goal.bounds-marks-m-then-l-ne0
 bounds-marks-m-then-l-ne0 c = omega (arith, c.broad-m.ensures)
 
 pub loop-k-preserved-then-l-ne0 : goal.loop-k-preserved-then-l-ne0
 loop-k-preserved-then-l-ne0 c =
-    (omega (arith, c.loop-k.invariant.0), compared_one _ _ _ _ c.loop-k.invariant.1 c.loop-k-test.true _ c.link_at-l.ensures (ne_eqb _ _ c.if-l-ne0.true) _ c.broad-m.ensures (sym c.alone.ensures ∙ c.if-alone.true))
+    (omega (arith, c.loop-k.invariant.0), compared_one _ _ _ _ c.loop-k.invariant.1 c.loop-k-test.true _ c.link_at-l.ensures (ne_eqb _ _ c.if-l-ne0.true) _ c.broad-m.ensures (sym c.alone.ensures ∙ c.if-not-alone.false))
 
 pub loop-k-preserved : goal.loop-k-preserved
 loop-k-preserved c =

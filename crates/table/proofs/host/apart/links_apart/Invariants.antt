@@ -9,6 +9,3 @@ use Rattle.table.proofs.host.apart.links_apart.Given as goal
 
 abbrev pub invariant-loop-k : goal.invariant-loop-k
 invariant-loop-k l = (l.k ≤ 128) × Compared broad_of (link_addresses_of (records_of l.table)) (addresses_of (records_of l.table)) l.marks l.k
-
-abbrev pub decreases-loop-k : goal.decreases-loop-k
-decreases-loop-k l = l.k

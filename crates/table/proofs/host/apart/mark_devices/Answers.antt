@@ -12,26 +12,8 @@ use mathlib.Core.Path.{◌∙◌, ap}
 use native.Mathlib.Omega.{arith}
 use Rattle.table.proofs.host.apart.mark_devices.Goals as goal
 
-pub loop-i-init : goal.loop-i-init
-loop-i-init c = (search rules, λ j l. absurd (omega arith))
-
-pub overflow_mul-i : goal.overflow_mul-i
-overflow_mul-i c = omega (arith, c.loop-i-test.true)
-
-pub address_in-requires : goal.address_in-requires
-address_in-requires c = tt
-
-pub broad-requires : goal.broad-requires
-broad-requires c = tt
-
-pub bounds-marks-broad : goal.bounds-marks-broad
-bounds-marks-broad c = omega (arith, c.broad.ensures, c.loop-i.invariant.0)
-
 pub loop-i-preserved : goal.loop-i-preserved
 loop-i-preserved c =
     let xs = c.args.table.now in
     let named = c.broad.ensures ∙ ap broad_of (c.address_in.ensures ∙ address_at c.loop-i.i xs c.loop-i-test.true) in
     (length-set c.loop-i.marks c.broad.result true ∙ c.loop-i.invariant.0, marked_next c.loop-i.marks (λ j. broad_of (get_or (addresses_of (records_of xs)) j 0)) c.loop-i.i c.broad.result (rw c.loop-i.invariant.0 (omega (arith, c.broad.ensures))) named c.loop-i.invariant.1)
-
-pub returns : goal.returns
-returns c = (c.loop-i.invariant.0, λ j l. c.loop-i.invariant.1 j (omega (arith, l, c.loop-i-test.false)))

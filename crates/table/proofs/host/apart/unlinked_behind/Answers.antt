@@ -10,12 +10,6 @@ use mathlib.Core.Path.{◌∙◌, refl, sym}
 use native.Mathlib.Omega.{arith}
 use Rattle.table.proofs.host.apart.unlinked_behind.Goals as goal
 
-pub loop-i-init : goal.loop-i-init
-loop-i-init c = (omega arith, refl)
-
-pub link_at-requires : goal.link_at-requires
-link_at-requires c = c.loop-i-test.true
-
 pub returns-then-link_at-a : goal.returns-then-link_at-a
 returns-then-link_at-a c = tails_no (λ p ps. apart c.args.a p) (link_addresses_of (records_of c.args.table.now)) c.loop-i.i _ c.loop-i.invariant.1 0 (rw (length_slots c.args.table.now) c.loop-i-test.true) (rw (eq-eqb _ _ (sym c.link_at.ensures ∙ c.if-link_at-a.true)))
 

@@ -4,10 +4,10 @@ use Rattle.table.specs.Input.{miscounted}
 use Rattle.octets.proofs.Branch.{tests}
 use Rattle.table.proofs.host.input.is_miscounted.Goals as goal
 
-pub returns-then-octet_at-ne4 : goal.returns-then-octet_at-ne4
+pub returns-then-octet_at-eq4 : goal.returns-then-octet_at-eq4
 unfolding miscounted
-returns-then-octet_at-ne4 c = search (tests, ← c.octet_at.ensures)
+returns-then-octet_at-eq4 c = search (tests, ← c.octet_at.ensures, ← c.u16_at.ensures, ← c.octet_at-then-octet_at-eq4.ensures)
 
-pub returns : goal.returns
+pub returns-else-octet_at-eq4 : goal.returns-else-octet_at-eq4
 unfolding miscounted
-returns c = search (tests, ← c.octet_at.ensures, ← c.u16_at.ensures, ← c.octet_at-2.ensures)
+returns-else-octet_at-eq4 c = search (tests, ← c.octet_at.ensures)

@@ -24,13 +24,13 @@ pub returns-in-3 : goal.returns-in-3
 unfolding length_allowed
 returns-in-3 c = search (tests, c.in-3.is, c.if-first.false)
 
-pub returns-then-size-lt7 : goal.returns-then-size-lt7
+pub returns-then-size-ge7 : goal.returns-then-size-ge7
 unfolding length_allowed
-returns-then-size-lt7 c = search (tests, c.in-4.is, c.if-first.false)
+returns-then-size-ge7 c = search (tests, c.in-4.is, c.if-first.false)
 
-pub returns-else-size-lt7 : goal.returns-else-size-lt7
+pub returns-else-size-ge7 : goal.returns-else-size-ge7
 unfolding length_allowed
-returns-else-size-lt7 c = search (tests, c.in-4.is, c.if-first.false)
+returns-else-size-ge7 c = search (tests, c.in-4.is, c.if-first.false)
 
 pub returns-in_default : goal.returns-in_default
 unfolding length_allowed

@@ -11,26 +11,26 @@ pub returns-then-s-lt5 : goal.returns-then-s-lt5
 unfolding taken_of
 returns-then-s-lt5 c = search tests
 
-pub returns-else-is_marked : goal.returns-else-is_marked
+pub returns-then-not-is_marked : goal.returns-then-not-is_marked
 unfolding taken_of
-returns-else-is_marked c = search (tests, c.if-is_marked.false, ← c.is_marked.ensures)
+returns-then-not-is_marked c = search (tests, c.if-not-is_marked.true, ← c.is_marked.ensures)
 
-pub returns-else-length_allowed : goal.returns-else-length_allowed
+pub returns-then-not-length_allowed : goal.returns-then-not-length_allowed
 unfolding taken_of
-returns-else-length_allowed c = search (tests, c.if-length_allowed.false, ← c.length_allowed.ensures, ← c.u16_at-size.ensures, ← c.octet_at-kind.ensures, c.if-is_marked.true, ← c.is_marked.ensures)
+returns-then-not-length_allowed c = search (tests, c.if-not-length_allowed.true, ← c.length_allowed.ensures, ← c.u16_at-size.ensures, ← c.octet_at-kind.ensures, c.if-not-is_marked.false, ← c.is_marked.ensures)
 
 pub returns-then-s-size : goal.returns-then-s-size
 unfolding taken_of
-returns-then-s-size c = search (tests, c.if-length_allowed.true, ← c.length_allowed.ensures, ← c.u16_at-size.ensures, ← c.octet_at-kind.ensures, c.if-is_marked.true, ← c.is_marked.ensures)
+returns-then-s-size c = search (tests, c.if-not-length_allowed.false, ← c.length_allowed.ensures, ← c.u16_at-size.ensures, ← c.octet_at-kind.ensures, c.if-not-is_marked.false, ← c.is_marked.ensures)
 
 pub returns-then-first : goal.returns-then-first
 unfolding taken_of
-returns-then-first c = rw (le-ltb _ _ c.if-s-lt5.false, ← c.is_marked.ensures, c.if-is_marked.true, ← c.octet_at-kind.ensures, ← c.u16_at-size.ensures, ← c.length_allowed.ensures, c.if-length_allowed.true, le-ltb _ _ c.if-s-size.false, c.if-first.true) (ap First (rw c.body.ensures at c.settings_in.ensures))
+returns-then-first c = rw (le-ltb _ _ c.if-s-lt5.false, ← c.is_marked.ensures, c.if-not-is_marked.false, ← c.octet_at-kind.ensures, ← c.u16_at-size.ensures, ← c.length_allowed.ensures, c.if-not-length_allowed.false, le-ltb _ _ c.if-s-size.false, c.if-first.true) (ap First (rw c.body.ensures at c.settings_in.ensures))
 
 pub returns-then-is_miscounted : goal.returns-then-is_miscounted
 unfolding taken_of
-returns-then-is_miscounted c = rw (le-ltb _ _ c.if-s-lt5.false, ← c.is_marked.ensures, c.if-is_marked.true, ← c.octet_at-kind.ensures, ← c.u16_at-size.ensures, ← c.length_allowed.ensures, c.if-length_allowed.true, le-ltb _ _ c.if-s-size.false, c.if-first.false, ← c.is_miscounted.ensures, c.if-is_miscounted.true)
+returns-then-is_miscounted c = rw (le-ltb _ _ c.if-s-lt5.false, ← c.is_marked.ensures, c.if-not-is_marked.false, ← c.octet_at-kind.ensures, ← c.u16_at-size.ensures, ← c.length_allowed.ensures, c.if-not-length_allowed.false, le-ltb _ _ c.if-s-size.false, c.if-first.false, ← c.is_miscounted.ensures, c.if-is_miscounted.true)
 
 pub returns-else-is_miscounted : goal.returns-else-is_miscounted
 unfolding taken_of
-returns-else-is_miscounted c = rw (le-ltb _ _ c.if-s-lt5.false, ← c.is_marked.ensures, c.if-is_marked.true, ← c.octet_at-kind.ensures, ← c.u16_at-size.ensures, ← c.length_allowed.ensures, c.if-length_allowed.true, le-ltb _ _ c.if-s-size.false, c.if-first.false, ← c.is_miscounted.ensures, c.if-is_miscounted.false) (ap Next c.event_at.ensures)
+returns-else-is_miscounted c = rw (le-ltb _ _ c.if-s-lt5.false, ← c.is_marked.ensures, c.if-not-is_marked.false, ← c.octet_at-kind.ensures, ← c.u16_at-size.ensures, ← c.length_allowed.ensures, c.if-not-length_allowed.false, le-ltb _ _ c.if-s-size.false, c.if-first.false, ← c.is_miscounted.ensures, c.if-is_miscounted.false) (ap Next c.event_at.ensures)

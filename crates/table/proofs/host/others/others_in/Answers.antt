@@ -8,9 +8,6 @@ use native.Mathlib.Omega.{arith}
 use Rattle.octets.proofs.Branch.{tests}
 use Rattle.table.proofs.host.others.others_in.Goals as goal
 
-pub answers-requires : goal.answers-requires
-answers-requires c = tt
-
 pub returns-then-answers : goal.returns-then-answers
 unfolding others_of
 returns-then-answers c = c.nobody.ensures ∙ search (tests, c.if-answers.true, ← c.answers.ensures)
@@ -18,38 +15,11 @@ returns-then-answers c = c.nobody.ensures ∙ search (tests, c.if-answers.true, 
 pub loop-i-init : goal.loop-i-init
 loop-i-init c = tallied_none _ (length_records 32 0 _) _ refl
 
-pub overflow_mul-i : goal.overflow_mul-i
-overflow_mul-i c = omega (arith, c.loop-i.invariant.low)
-
-pub blank_at-requires : goal.blank_at-requires
-blank_at-requires c = tt
-
 pub loop-i-preserved-then-blank_at : goal.loop-i-preserved-then-blank_at
 loop-i-preserved-then-blank_at c = tallied_free _ _ _ _ _ c.loop-i.invariant c.loop-i-test.true (sym (blank_free _ _ (omega (arith, c.loop-i.invariant.low, c.loop-i-test.true)) (sym c.blank_at.ensures ∙ c.if-blank_at.true)))
 
-pub look-p-requires : goal.look-p-requires
-look-p-requires c = tt
-
-pub is_joined-on-requires : goal.is_joined-on-requires
-is_joined-on-requires c = tt
-
-pub first_joined-associated-requires : goal.first_joined-associated-requires
-first_joined-associated-requires c = tt
-
-pub counted-joined-requires : goal.counted-joined-requires
-counted-joined-requires c = omega (arith, c.loop-i.invariant.few, c.loop-i-test.true)
-
-pub is_associating-requires : goal.is_associating-requires
-is_associating-requires c = tt
-
-pub counted-associating-requires : goal.counted-associating-requires
-counted-associating-requires c = omega (arith, c.loop-i.invariant.few', c.loop-i-test.true)
-
 pub loop-i-preserved : goal.loop-i-preserved
 loop-i-preserved c = tallied_more _ _ _ _ _ c.loop-i.invariant c.loop-i-test.true _ c.look-p.ensures _ (c.first_joined-associated.ensures ∙ rw c.is_joined-on.ensures) _ (c.counted-joined.ensures ∙ rw c.is_joined-on.ensures) _ (c.counted-associating.ensures ∙ rw c.is_associating.ensures)
-
-pub others-requires : goal.others-requires
-others-requires c = tt
 
 pub returns : goal.returns
 returns c = let e = tallied_all _ _ _ _ _ c.loop-i.invariant c.loop-i-test.false in c.others.ensures _ e.0 e.1

@@ -6,6 +6,3 @@ use Rattle.table.proofs.host.others.others_in.Given as goal
 
 abbrev pub invariant-loop-i : goal.invariant-loop-i
 invariant-loop-i l = Tallied (records_of l.table) l.associated l.joined l.associating l.i
-
-abbrev pub decreases-loop-i : goal.decreases-loop-i
-decreases-loop-i l = l.i

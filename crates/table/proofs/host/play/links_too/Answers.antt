@@ -6,10 +6,10 @@ use Rattle.table.proofs.host.play.links_too.Goals as goal
 pub returns-then-naming : goal.returns-then-naming
 returns-then-naming c = rw c.if-naming.true
 
-pub returns-in-Nothing : goal.returns-in-Nothing
+pub returns-in-None : goal.returns-in-None
 unfolding new_at
-returns-in-Nothing c = rw (c.if-naming.false, c.in-Nothing.is)
+returns-in-None c = rw (c.if-naming.false, c.in-None.is)
 
-pub returns-in-At : goal.returns-in-At
+pub returns-in-Some : goal.returns-in-Some
 unfolding new_at
-returns-in-At c = rw (c.if-naming.false, c.in-At.is, c.look.ensures)
+returns-in-Some c = rw (c.if-naming.false, c.in-Some.is, c.look.ensures)

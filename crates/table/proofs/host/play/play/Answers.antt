@@ -14,16 +14,8 @@ returns-then-out-room c = λ i q h.
 pub returns-then-table-ne1536 : goal.returns-then-table-ne1536
 returns-then-table-ne1536 c = λ i q h. absurd (c.if-table-ne1536.true (table_long c.args.table.now i))
 
-pub ticked-requires : goal.ticked-requires
-ticked-requires c =
-    let z = sym c.ticks.ensures ∙ c.if-ticks.true in
-    (c.if-table-ne1536.false, omega (arith, c.room.ensures, tick_room c.args.e z, c.if-out-room.false))
-
 pub returns-then-ticks : goal.returns-then-ticks
 returns-then-ticks c = λ i q h.
     let a = c.args in
     let p = plays_tick a.table.now a.s a.e a.octets.now a.out.now (rw c.room.ensures at c.if-out-room.false) (sym c.ticks.ensures ∙ c.if-ticks.true) _ c.step_in.ensures in
     (c.ticked.ensures.0 ∙ p.0, c.ticked.ensures.1 i ∙ p.1, c.ticked.ensures.2 ∙ p.2)
-
-pub returns : goal.returns
-returns c = λ i q h. c.changed.ensures i q h (sym c.ticks.ensures ∙ c.if-ticks.false) (rw c.room.ensures at c.if-out-room.false)

@@ -1,6 +1,6 @@
 -- `table::host::rows::clock` meets its contract: the places passed hold what they must, the others what they held, and what ended is told.
 -- Assumes nothing.
-use Prim.Native.Nat.{◌-◌, ◌≤◌}
+use Prim.Native.Nat.{◌≤◌}
 use Rattle.octets.proofs.RowTrip.{Octets}
 use Rattle.table.proofs.Octets.RowStores.{Rewritten}
 use Rattle.table.proofs.Passes.Ticks.{Told}
@@ -12,6 +12,3 @@ use Rattle.table.proofs.host.rows.clock.Given as goal
 
 abbrev pub invariant-loop-i : goal.invariant-loop-i
 invariant-loop-i l = (length l.initial.table ≡ 1536) × (256 ≤ length l.initial.out) × Octets l.initial.table × Rewritten (after_of l.s l.d) l.initial.table l.i l.table × Told l.s l.d l.initial.out (records_of l.initial.table) l.out l.n l.i
-
-abbrev pub decreases-loop-i : goal.decreases-loop-i
-decreases-loop-i l = 32 - l.i

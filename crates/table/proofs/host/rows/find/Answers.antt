@@ -7,18 +7,6 @@ use mathlib.Core.Path.{◌∙◌, refl, sym}
 use native.Mathlib.Omega.{arith}
 use Rattle.table.proofs.host.rows.find.Goals as goal
 
-pub returns-then-table-ne1536 : goal.returns-then-table-ne1536
-returns-then-table-ne1536 c = absurd (c.if-table-ne1536.true c.requires)
-
-pub loop-i-init : goal.loop-i-init
-loop-i-init c = (c.requires, omega arith, refl)
-
-pub overflow_mul-i : goal.overflow_mul-i
-overflow_mul-i c = omega (arith, c.loop-i-test.true)
-
-pub address_in-requires : goal.address_in-requires
-address_in-requires c = tt
-
 pub returns-then-address_in-address : goal.returns-then-address_in-address
 returns-then-address_in-address c = first_yes _ _ _ _ c.loop-i.invariant.2 0 (rw (length_addresses _) c.loop-i-test.true) (eq-eqb _ _ (sym (address_at _ _ c.loop-i-test.true) ∙ sym c.address_in.ensures ∙ c.if-address_in-address.true))
 

@@ -4,15 +4,6 @@ use Rattle.table.proofs.Octets.RowLaws.{at_place, no_place}
 use mathlib.Core.Path.{◌∙◌}
 use Rattle.table.proofs.host.rows.look.Goals as goal
 
-pub row_at-requires : goal.row_at-requires
-row_at-requires c = tt
-
-pub record_of-requires : goal.record_of-requires
-record_of-requires c = tt
-
-pub free-requires : goal.free-requires
-free-requires c = tt
-
 pub returns-then-i-lt32 : goal.returns-then-i-lt32
 returns-then-i-lt32 c = c.record_of.ensures ∙ rw c.row_at.ensures (at_place c.args.i c.args.table.now c.if-i-lt32.true)
 

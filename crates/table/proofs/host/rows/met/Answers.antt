@@ -9,10 +9,10 @@ pub returns-then-table-ne1536 : goal.returns-then-table-ne1536
 unfolding met_of
 returns-then-table-ne1536 c = λ e same. absurd (c.if-table-ne1536.true (table_long c.args.table.now e))
 
-pub returns-in-Nothing : goal.returns-in-Nothing
+pub returns-in-None : goal.returns-in-None
 unfolding met_of
-returns-in-Nothing c = λ e same. rw c.in-Nothing.is (sym (octets_of_records c.args.table.now (λ k. (c.type_inv.table k).fits) e))
+returns-in-None c = λ e same. rw c.in-None.is (sym (octets_of_records c.args.table.now (λ k. (c.type_inv.table k).fits) e))
 
-pub returns-in-At : goal.returns-in-At
+pub returns-in-Some : goal.returns-in-Some
 unfolding met_of
-returns-in-At c = λ e same. rw c.in-At.is (c.stored.ensures e (λ z. rw c.in-At.is at (same z)))
+returns-in-Some c = λ e same. rw c.in-Some.is (c.stored.ensures e (λ z. rw c.in-Some.is at (same z)))

@@ -12,24 +12,9 @@ use Rattle.table.proofs.host.rows.part_all.Goals as goal
 pub loop-i-init : goal.loop-i-init
 loop-i-init c = (c.requires, search rules, (λ k. (c.type_inv.table k).fits), rewritten_none parted_of _)
 
-pub overflow_mul-at : goal.overflow_mul-at
-overflow_mul-at c = omega (arith, c.loop-i-test.true)
-
-pub blank_at-requires : goal.blank_at-requires
-blank_at-requires c = tt
-
 pub loop-i-preserved-then-blank_at : goal.loop-i-preserved-then-blank_at
 unfolding parted_of
 loop-i-preserved-then-blank_at c = (c.loop-i.invariant.0, omega (arith, c.loop-i-test.true), c.loop-i.invariant.2, rewritten_free parted_of _ c.loop-i.invariant.0 _ _ c.loop-i-test.true c.loop-i.invariant.3 c.loop-i.invariant.2 (sym c.blank_at.ensures ∙ c.if-blank_at.true) refl)
-
-pub look-p-requires : goal.look-p-requires
-look-p-requires c = tt
-
-pub parted-q-requires : goal.parted-q-requires
-parted-q-requires c = tt
-
-pub store_head-requires : goal.store_head-requires
-store_head-requires c = tt
 
 pub loop-i-preserved : goal.loop-i-preserved
 loop-i-preserved c = (c.loop-i.invariant.0, omega (arith, c.loop-i-test.true), c.loop-i.invariant.2, c.store_head.ensures ∙ rw (lt-ltb _ _ c.loop-i-test.true) (rewritten_head parted_of _ c.loop-i.invariant.0 _ _ c.loop-i-test.true c.loop-i.invariant.3 c.loop-i.invariant.2 (λ q. (parted_links q).1) _ (c.parted-q.ensures ∙ rw (c.look-p.ensures, record_unread parted_of _ c.loop-i.invariant.0 _ _ c.loop-i-test.true c.loop-i.invariant.3))))

@@ -1,26 +1,10 @@
 -- `table::host::rows::resting` meets its contract: where all tests are passed, no time falls, no query runs, and State 1, which may be freed,
 -- is not there; else the promise says nothing.
 -- Assumes nothing.
-use Rattle.peer.proofs.Fits.{wrong}
 use Rattle.table.proofs.Octets.Resting.{rests}
 use Rattle.table.specs.Rows.{query_numbered, row_numbered}
 use borrow.Author.Tests.{ne_eqb}
 use Rattle.table.proofs.host.rows.resting.Goals as goal
-
-pub returns-then-r-ne0 : goal.returns-then-r-ne0
-returns-then-r-ne0 c = λ t. wrong t
-
-pub returns-then-r-ne0-2 : goal.returns-then-r-ne0-2
-returns-then-r-ne0-2 c = λ t. wrong t
-
-pub returns-then-r-eq-STATE_1 : goal.returns-then-r-eq-STATE_1
-returns-then-r-eq-STATE_1 c = λ t. wrong t
-
-pub returns-then-r-ne0-3 : goal.returns-then-r-ne0-3
-returns-then-r-ne0-3 c = λ t. wrong t
-
-pub returns-then-r-ne0-4 : goal.returns-then-r-ne0-4
-returns-then-r-ne0-4 c = λ t. wrong t
 
 pub returns : goal.returns
 unfolding row_numbered query_numbered

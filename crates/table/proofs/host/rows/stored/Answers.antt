@@ -13,14 +13,8 @@ use mathlib.Core.List.{map}
 use mathlib.Core.Path.{◌∙◌, sym}
 use Rattle.table.proofs.host.rows.stored.Goals as goal
 
-pub put-requires : goal.put-requires
-put-requires c = tt
-
 pub returns-then-sole : goal.returns-then-sole
 returns-then-sole c = λ e same. rw c.if-sole.true (c.put.ensures ∙ rw c.part_all.ensures (put_maybe (map parted_of (records_of c.args.table.now)) (length-map (records_of c.args.table.now) parted_of ∙ length_records 32 0 _) _ _ _ (λ z. rw c.if-sole.true at (same z) ∙ sym (map_same (λ (p : Record). p.links) parted_of (λ p. (parted_links p).1) (records_of c.args.table.now)))))
-
-pub put-requires-2 : goal.put-requires-2
-put-requires-2 c = tt
 
 pub returns : goal.returns
 returns c = λ e same. rw c.if-sole.false (c.put-2.ensures ∙ put_table c.args.table.now (λ k. search rules) e _ _ _ (λ z. rw c.if-sole.false at (same z)))

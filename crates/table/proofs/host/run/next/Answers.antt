@@ -1,12 +1,9 @@
 -- `table::host::run::next` meets its contract: by its test and what its callees ensure.
 -- Assumes nothing.
 use Rattle.std.proofs.Common.{rules}
-use borrow.Author.Tests.{le-ltb, lt-ltb}
+use borrow.Author.Tests.{le-ltb}
 use Rattle.table.proofs.Octets.KnownLaws.{all_body, all_octets_lem}
 use Rattle.table.proofs.host.run.next.Goals as goal
-
-pub returns-then-out-room : goal.returns-then-out-room
-returns-then-out-room c = (rw (lt-ltb _ _ (rw c.room.ensures at c.if-out-room.true), c.stop.ensures.0, c.stop.ensures.1), rw c.stop.ensures.2 c.requires)
 
 pub returns : goal.returns
 returns c =

@@ -1,14 +1,9 @@
 -- `table::host::run::run` meets its contract: a turn of the loop is one event, and what is still to come is what the definition still gives.
 -- Assumes nothing.
 use Rattle.table.proofs.Octets.RunLaws.{place_inside, run_bounds, run_end, run_more, run_start, run_stop}
+use mathlib.Core.Path.{◌≡◌}
 use native.Mathlib.Omega.{arith}
 use Rattle.table.proofs.host.run.run.Goals as goal
-
-pub answers_in-most-requires : goal.answers_in-most-requires
-answers_in-most-requires c = tt
-
-pub checked-k-requires : goal.checked-k-requires
-checked-k-requires c = tt
 
 pub loop-n-init : goal.loop-n-init
 loop-n-init c = run_start _ _ _ _ _ _ _ _ c.answers_in-most.ensures c.checked-k.ensures
@@ -28,9 +23,6 @@ overflow_add-from c = omega (arith, (run_bounds _ _ _ _ _ _ _ _ _ _ _ _ _ _ c.lo
 pub overflow_add-at : goal.overflow_add-at
 overflow_add-at c = omega (arith, (run_bounds _ _ _ _ _ _ _ _ _ _ _ _ _ _ c.loop-n.invariant c.loop-n-test.true _ _ _ _ _ c.turn_at-p.ensures.0 c.if-p-eq0.false).1, c.loop-n.invariant.out, c.well_formed)
 
-pub overflow_add-n : goal.overflow_add-n
-overflow_add-n c = omega (arith, c.loop-n-test.true, c.loop-n.invariant.total, c.well_formed)
-
 pub loop-n-smaller : goal.loop-n-smaller
 loop-n-smaller c = omega (arith, c.loop-n-test.true)
 
@@ -38,4 +30,6 @@ pub loop-n-preserved : goal.loop-n-preserved
 loop-n-preserved c = run_more _ _ _ _ _ _ _ _ _ _ _ _ _ _ c.loop-n.invariant c.loop-n-test.true _ _ _ _ _ c.turn_at-p.ensures.0 c.if-p-eq0.false _ _ c.turn_at-p.auto.table c.turn_at-p.auto.out c.turn_at-p.auto.answers c.turn_at-p.ensures.1
 
 pub returns : goal.returns
-returns c = run_end _ _ _ _ _ _ _ _ _ _ _ _ _ _ c.loop-n.invariant c.loop-n-test.false
+returns c =
+    let all : c.loop-n.n ≡ c.answers_in-most.result = omega arith in
+    rw all at (run_end _ _ _ _ _ _ _ _ _ _ _ _ _ _ c.loop-n.invariant c.loop-n-test.false)

@@ -12,16 +12,10 @@ use mathlib.Core.Path.{◌∙◌, ap, refl, sym}
 use native.Mathlib.Omega.{arith}
 use Rattle.table.proofs.host.seek.first_link.Goals as goal
 
-pub search-init : goal.search-init
-search-init c = (omega arith, refl, refl)
-
 pub loop-j-init : goal.loop-j-init
 loop-j-init c =
     let a = c.args in
     (c.search-test.true, omega arith, c.search.invariant.1, first_in (λ l. eqb l a.address) (λ (p : Record). links_of p.links) _ _ _ c.search.invariant.2 free_of (rw (length_records 32 0 a.table.now) c.search-test.true))
-
-pub overflow_mul-i : goal.overflow_mul-i
-overflow_mul-i c = omega (arith, c.loop-j.invariant.0)
 
 pub loop-j-preserved : goal.loop-j-preserved
 loop-j-preserved c =

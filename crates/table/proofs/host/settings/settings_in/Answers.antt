@@ -9,10 +9,10 @@ all_in-requires c = c.if-s-eq24.true
 pub returns-then-s-eq24 : goal.returns-then-s-eq24
 returns-then-s-eq24 c = c.all_in.ensures
 
-pub returns-else-settings_length : goal.returns-else-settings_length
+pub returns-then-not-settings_length : goal.returns-then-not-settings_length
 unfolding settings_in
-returns-else-settings_length c = rw (← c.settings_length.ensures, c.if-settings_length.false)
+returns-then-not-settings_length c = rw (← c.settings_length.ensures, c.if-not-settings_length.true)
 
 pub returns : goal.returns
 unfolding settings_in
-returns c = rw (← c.settings_length.ensures, c.if-settings_length.true, ← c.address_at.ensures, ← c.address_at-2.ensures, ← c.u16_at.ensures, ← c.u16_at-2.ensures, ← c.octet_at.ensures, ← c.octet_at-2.ensures, ← c.edition_in.ensures, ← c.octet_at-3.ensures, ← c.retry_in.ensures, ← c.maximum_in.ensures)
+returns c = rw (← c.settings_length.ensures, c.if-not-settings_length.false, ← c.address_at.ensures, ← c.address_at-2.ensures, ← c.u16_at.ensures, ← c.u16_at-2.ensures, ← c.octet_at.ensures, ← c.octet_at-2.ensures, ← c.edition_in.ensures, ← c.octet_at-3.ensures, ← c.retry_in.ensures, ← c.maximum_in.ensures)

@@ -18,19 +18,19 @@ overflow_mul-i c = omega (arith, c.loop-i-test.true)
 pub links_standing-requires : goal.links_standing-requires
 links_standing-requires c = rw c.requires (omega (arith, c.loop-i-test.true))
 
-pub returns-else-links_standing : goal.returns-else-links_standing
-returns-else-links_standing c =
+pub returns-then-not-links_standing : goal.returns-then-not-links_standing
+returns-then-not-links_standing c =
     let s = c.args.s in
     let xs = c.args.table.now in
     let inside = c.loop-i-test.true in
-    tails_no (λ p ps. links_fit s p) (records_of xs) c.loop-i.i _ c.loop-i.invariant free_of (rw (length_records 32 0 xs) inside) (ap (links_fit s) (sym (at_place _ xs inside)) ∙ sym c.links_standing.ensures ∙ c.if-links_standing.false)
+    tails_no (λ p ps. links_fit s p) (records_of xs) c.loop-i.i _ c.loop-i.invariant free_of (rw (length_records 32 0 xs) inside) (ap (links_fit s) (sym (at_place _ xs inside)) ∙ sym c.links_standing.ensures ∙ c.if-not-links_standing.true)
 
 pub loop-i-preserved : goal.loop-i-preserved
 loop-i-preserved c =
     let s = c.args.s in
     let xs = c.args.table.now in
     let inside = c.loop-i-test.true in
-    tails_yes (λ p ps. links_fit s p) (records_of xs) c.loop-i.i _ c.loop-i.invariant free_of (rw (length_records 32 0 xs) inside) (ap (links_fit s) (sym (at_place _ xs inside)) ∙ sym c.links_standing.ensures ∙ c.if-links_standing.true)
+    tails_yes (λ p ps. links_fit s p) (records_of xs) c.loop-i.i _ c.loop-i.invariant free_of (rw (length_records 32 0 xs) inside) (ap (links_fit s) (sym (at_place _ xs inside)) ∙ sym c.links_standing.ensures ∙ c.if-not-links_standing.false)
 
 pub returns : goal.returns
 returns c =

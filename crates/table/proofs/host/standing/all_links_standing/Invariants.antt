@@ -1,6 +1,5 @@
 -- `table::host::standing::all_links_standing` meets its contract: what holds from the place reached on holds at all.
 -- Assumes nothing.
-use Prim.Native.Nat.{◌-◌}
 use Rattle.peer.specs.Fit.{links_fit}
 use Rattle.table.specs.Places.{all_of}
 use Rattle.table.specs.Rows.{records_of}
@@ -10,6 +9,3 @@ use Rattle.table.proofs.host.standing.all_links_standing.Given as goal
 
 abbrev pub invariant-loop-i : goal.invariant-loop-i
 invariant-loop-i l = all_of (links_fit l.s) (drop l.i (records_of l.table)) ≡ all_of (links_fit l.s) (records_of l.table)
-
-abbrev pub decreases-loop-i : goal.decreases-loop-i
-decreases-loop-i l = 32 - l.i

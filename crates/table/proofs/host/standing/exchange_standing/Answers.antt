@@ -10,56 +10,29 @@ use mathlib.Core.Path.{◌∙◌, sym}
 use native.Mathlib.Omega.{arith}
 use Rattle.table.proofs.host.standing.exchange_standing.Goals as goal
 
-pub alone-requires : goal.alone-requires
-alone-requires c = tt
-
 pub returns-then-e-eq0 : goal.returns-then-e-eq0
 unfolding exchange_of
 returns-then-e-eq0 c = alone_standing _ _ c.alone.ensures _ _ (fits_by c.args.role c.args.e c.args.state c.args.left (omega arith) ∙ rw (eq-eqb _ _ c.if-e-eq0.true)) (λ t. rw c.if-e-eq0.true)
 
-pub timing-requires : goal.timing-requires
-timing-requires c = tt
-
-pub alone-requires-else-timing : goal.alone-requires-else-timing
-alone-requires-else-timing c = tt
-
-pub returns-else-timing : goal.returns-else-timing
-returns-else-timing c = no_standing _ c.alone-else-timing.ensures _ _ (fits_by c.args.role c.args.e c.args.state c.args.left (omega arith) ∙ rw (ne_eqb _ _ c.if-e-eq0.false, ← c.timing.ensures, c.if-timing.false))
-
-pub alone-requires-then-e-eq1 : goal.alone-requires-then-e-eq1
-alone-requires-then-e-eq1 c = tt
+pub returns-then-not-timing : goal.returns-then-not-timing
+returns-then-not-timing c = no_standing _ c.alone-then-not-timing.ensures _ _ (fits_by c.args.role c.args.e c.args.state c.args.left (omega arith) ∙ rw (ne_eqb _ _ c.if-e-eq0.false, ← c.timing.ensures, c.if-not-timing.true))
 
 pub returns-then-e-eq1 : goal.returns-then-e-eq1
 unfolding exchange_of
-returns-then-e-eq1 c = alone_standing _ _ c.alone-then-e-eq1.ensures _ _ (fits_by c.args.role c.args.e c.args.state c.args.left (omega arith) ∙ rw (ne_eqb _ _ c.if-e-eq0.false, ← c.timing.ensures, c.if-timing.true, eq-eqb _ _ c.if-e-eq1.true)) (λ t. rw c.if-e-eq1.true)
-
-pub alone-requires-then-e-eq7 : goal.alone-requires-then-e-eq7
-alone-requires-then-e-eq7 c = tt
+returns-then-e-eq1 c = alone_standing _ _ c.alone-then-e-eq1.ensures _ _ (fits_by c.args.role c.args.e c.args.state c.args.left (omega arith) ∙ rw (ne_eqb _ _ c.if-e-eq0.false, ← c.timing.ensures, c.if-not-timing.false, eq-eqb _ _ c.if-e-eq1.true)) (λ t. rw c.if-e-eq1.true)
 
 pub returns-then-e-eq7 : goal.returns-then-e-eq7
 unfolding exchange_of
-returns-then-e-eq7 c = alone_standing _ _ c.alone-then-e-eq7.ensures _ _ (fits_by c.args.role c.args.e c.args.state c.args.left (omega arith) ∙ rw (ne_eqb _ _ c.if-e-eq0.false, ← c.timing.ensures, c.if-timing.true, ne_eqb _ _ c.if-e-eq1.false, eq-eqb _ _ c.if-e-eq7.true)) (λ t. rw c.if-e-eq7.true)
+returns-then-e-eq7 c = alone_standing _ _ c.alone-then-e-eq7.ensures _ _ (fits_by c.args.role c.args.e c.args.state c.args.left (omega arith) ∙ rw (ne_eqb _ _ c.if-e-eq0.false, ← c.timing.ensures, c.if-not-timing.false, ne_eqb _ _ c.if-e-eq1.false, eq-eqb _ _ c.if-e-eq7.true)) (λ t. rw c.if-e-eq7.true)
 
-pub associates-requires : goal.associates-requires
-associates-requires c = tt
-
-pub alone-requires-else-associates : goal.alone-requires-else-associates
-alone-requires-else-associates c = tt
-
-pub returns-else-associates : goal.returns-else-associates
-returns-else-associates c = no_standing _ c.alone-else-associates.ensures _ _ (fits_by c.args.role c.args.e c.args.state c.args.left (omega arith) ∙ rw (ne_eqb _ _ c.if-e-eq0.false, ← c.timing.ensures, c.if-timing.true, ne_eqb _ _ c.if-e-eq1.false, ne_eqb _ _ c.if-e-eq7.false, ← c.associates.ensures, c.if-associates.false) (and_false (leb c.args.e 9 && not (eqb c.args.e 4))))
-
-pub alone-requires-then-state-lt-STATE_2 : goal.alone-requires-then-state-lt-STATE_2
-alone-requires-then-state-lt-STATE_2 c = tt
+pub returns-then-not-associates : goal.returns-then-not-associates
+returns-then-not-associates c = no_standing _ c.alone-then-not-associates.ensures _ _ (fits_by c.args.role c.args.e c.args.state c.args.left (omega arith) ∙ rw (ne_eqb _ _ c.if-e-eq0.false, ← c.timing.ensures, c.if-not-timing.false, ne_eqb _ _ c.if-e-eq1.false, ne_eqb _ _ c.if-e-eq7.false, ← c.associates.ensures, c.if-not-associates.true) (and_false (leb c.args.e 9 && not (eqb c.args.e 4))))
 
 pub returns-then-state-lt-STATE_2 : goal.returns-then-state-lt-STATE_2
-returns-then-state-lt-STATE_2 c = no_standing _ c.alone-then-state-lt-STATE_2.ensures _ _ (fits_by c.args.role c.args.e c.args.state c.args.left (omega arith) ∙ rw (ne_eqb _ _ c.if-e-eq0.false, ← c.timing.ensures, c.if-timing.true, ne_eqb _ _ c.if-e-eq1.false, ne_eqb _ _ c.if-e-eq7.false, ← c.associates.ensures, c.if-associates.true, lt-leb _ _ c.if-state-lt-STATE_2.true) (and_false (leb c.args.e 9 && not (eqb c.args.e 4))))
-
-pub alone-requires-then-e-gt9 : goal.alone-requires-then-e-gt9
-alone-requires-then-e-gt9 c = tt
+returns-then-state-lt-STATE_2 c = no_standing _ c.alone-then-state-lt-STATE_2.ensures _ _ (fits_by c.args.role c.args.e c.args.state c.args.left (omega arith) ∙ rw (ne_eqb _ _ c.if-e-eq0.false, ← c.timing.ensures, c.if-not-timing.false, ne_eqb _ _ c.if-e-eq1.false, ne_eqb _ _ c.if-e-eq7.false, ← c.associates.ensures, c.if-not-associates.false, lt-leb _ _ c.if-state-lt-STATE_2.true) (and_false (leb c.args.e 9 && not (eqb c.args.e 4))))
 
 pub returns-then-e-gt9 : goal.returns-then-e-gt9
-returns-then-e-gt9 c = no_standing _ c.alone-then-e-gt9.ensures _ _ (fits_by c.args.role c.args.e c.args.state c.args.left (omega arith) ∙ rw (ne_eqb _ _ c.if-e-eq0.false, ← c.timing.ensures, c.if-timing.true, ne_eqb _ _ c.if-e-eq1.false, ne_eqb _ _ c.if-e-eq7.false, ← c.associates.ensures, c.if-associates.true, lt-leb _ _ c.if-e-gt9.true))
+returns-then-e-gt9 c = no_standing _ c.alone-then-e-gt9.ensures _ _ (fits_by c.args.role c.args.e c.args.state c.args.left (omega arith) ∙ rw (ne_eqb _ _ c.if-e-eq0.false, ← c.timing.ensures, c.if-not-timing.false, ne_eqb _ _ c.if-e-eq1.false, ne_eqb _ _ c.if-e-eq7.false, ← c.associates.ensures, c.if-not-associates.false, lt-leb _ _ c.if-e-gt9.true))
 
 pub returns : goal.returns
-returns c = (sym (fits_by c.args.role c.args.e c.args.state c.args.left (omega arith) ∙ rw (ne_eqb _ _ c.if-e-eq0.false, ← c.timing.ensures, c.if-timing.true, ne_eqb _ _ c.if-e-eq1.false, ne_eqb _ _ c.if-e-eq7.false, ← c.associates.ensures, c.if-associates.true, le-leb _ _ c.if-state-lt-STATE_2.false, le-leb _ _ c.if-e-gt9.false) (and_true (not (eqb c.args.e 4)))), λ t. sym (joins c.args.e c.if-e-gt9.false ∙ rw (le-ltb c.args.e 2 (omega (arith, c.if-e-eq0.false, c.if-e-eq1.false)), not-true (eqb c.args.e 4) t, ne_eqb _ _ c.if-e-eq7.false)))
+returns c = (sym (fits_by c.args.role c.args.e c.args.state c.args.left (omega arith) ∙ rw (ne_eqb _ _ c.if-e-eq0.false, ← c.timing.ensures, c.if-not-timing.false, ne_eqb _ _ c.if-e-eq1.false, ne_eqb _ _ c.if-e-eq7.false, ← c.associates.ensures, c.if-not-associates.false, le-leb _ _ c.if-state-lt-STATE_2.false, le-leb _ _ c.if-e-gt9.false) (and_true (not (eqb c.args.e 4)))), λ t. sym (joins c.args.e c.if-e-gt9.false ∙ rw (le-ltb c.args.e 2 (omega (arith, c.if-e-eq0.false, c.if-e-eq1.false)), not-true (eqb c.args.e 4) t, ne_eqb _ _ c.if-e-eq7.false)))

@@ -4,20 +4,11 @@ use Rattle.table.proofs.Octets.LinkStandings.{links_by}
 use borrow.Author.Tests.{eq-eqb, ne_eqb}
 use Rattle.table.proofs.host.standing.links_standing.Goals as goal
 
-pub linkless_at-requires : goal.linkless_at-requires
-linkless_at-requires c = tt
-
 pub returns-then-linkless_at : goal.returns-then-linkless_at
 returns-then-linkless_at c = rw (links_by c.args.s c.args.at c.args.table.now c.requires _ c.linkless_at.ensures, c.if-linkless_at.true)
 
 pub returns-then-s-ne-AP : goal.returns-then-s-ne-AP
 returns-then-s-ne-AP c = rw (links_by c.args.s c.args.at c.args.table.now c.requires _ c.linkless_at.ensures, c.if-linkless_at.false, ne_eqb _ _ c.if-s-ne-AP.true)
-
-pub row_at-r-requires : goal.row_at-r-requires
-row_at-r-requires c = tt
-
-pub links_stand-requires : goal.links_stand-requires
-links_stand-requires c = tt
 
 pub returns : goal.returns
 returns c = rw (links_by c.args.s c.args.at c.args.table.now c.requires _ c.linkless_at.ensures, c.if-linkless_at.false, eq-eqb _ _ c.if-s-ne-AP.false, ← c.row_at-r.ensures) c.links_stand.ensures

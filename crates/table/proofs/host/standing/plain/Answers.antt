@@ -1,7 +1,6 @@
 -- `table::host::standing::plain` meets its contract: the row fits, or the promise says nothing.
 -- Assumes nothing.
 use Prim.Native.Nat.{ℕ}
-use Rattle.peer.proofs.Fits.{wrong}
 use Rattle.peer.specs.Fit.{hold_fits}
 use Rattle.peer.specs.Settings.{role_asks}
 use Rattle.table.proofs.Octets.Standings.{plain_stands}
@@ -19,30 +18,6 @@ fits-none role hold e = rw e (either (role_asks role))
     either true = refl
     either false = refl
 
-pub returns-then-r-ne0 : goal.returns-then-r-ne0
-returns-then-r-ne0 c = λ t. wrong t
-
-pub returns-then-r-ne0-2 : goal.returns-then-r-ne0-2
-returns-then-r-ne0-2 c = λ t. wrong t
-
-pub returns-then-r-lt-STATE_1 : goal.returns-then-r-lt-STATE_1
-returns-then-r-lt-STATE_1 c = λ t. wrong t
-
-pub returns-then-highest-r : goal.returns-then-highest-r
-returns-then-highest-r c = λ t. wrong t
-
-pub returns-then-r-ne0-3 : goal.returns-then-r-ne0-3
-returns-then-r-ne0-3 c = λ t. wrong t
-
-pub returns-then-r-ne0-4 : goal.returns-then-r-ne0-4
-returns-then-r-ne0-4 c = λ t. wrong t
-
-pub returns-then-r-s : goal.returns-then-r-s
-returns-then-r-s c = λ t. wrong t
-
-pub returns-else-valid : goal.returns-else-valid
-returns-else-valid c = λ t. wrong t
-
 pub returns : goal.returns
 returns c =
-    λ t. plain_stands c.args.s c.args.r (le-leb _ _ c.if-r-lt-STATE_1.false) (rw (← c.highest.ensures) (le-leb _ _ c.if-highest-r.false)) (ne_eqb _ _ c.if-r-s.false) (sym c.valid.ensures ∙ c.if-valid.true) (fits-none c.args.s.role c.args.r.hold (eqb-true _ _ t)) (omega (arith, c.well_formed)) c.if-r-ne0.false c.if-r-ne0-2.false c.if-r-ne0-3.false c.if-r-ne0-4.false
+    λ t. plain_stands c.args.s c.args.r (le-leb _ _ c.if-r-lt-STATE_1.false) (rw (← c.highest.ensures) (le-leb _ _ c.if-highest-r.false)) (ne_eqb _ _ c.if-r-s.false) (sym c.valid.ensures ∙ c.if-not-valid.false) (fits-none c.args.s.role c.args.r.hold (eqb-true _ _ t)) (omega (arith, c.well_formed)) c.if-r-ne0.false c.if-r-ne0-2.false c.if-r-ne0-3.false c.if-r-ne0-4.false

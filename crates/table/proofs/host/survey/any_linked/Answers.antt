@@ -9,29 +9,17 @@ use mathlib.Core.Path.{◌∙◌, ◌≡◌, sym}
 use native.Mathlib.Omega.{arith}
 use Rattle.table.proofs.host.survey.any_linked.Goals as goal
 
-pub returns-then-table-ne1536 : goal.returns-then-table-ne1536
-returns-then-table-ne1536 c = absurd (c.if-table-ne1536.true c.requires.0)
-
 pub returns-then-n-lt4 : goal.returns-then-n-lt4
 returns-then-n-lt4 c =
     let n = c.args.n in
     let first : n ≡ 0 = omega (arith, c.requires.2, c.if-n-lt4.true) in
     sym (rw first at (none_behind c.args.table.now c.requires.0 (32 - n) n (omega (arith, c.requires.1)) c.requires.3))
 
-pub returns-then-n-gt32 : goal.returns-then-n-gt32
-returns-then-n-gt32 c = absurd (omega (arith, c.if-n-gt32.true, c.requires.1))
-
 pub loop-n-init : goal.loop-n-init
 loop-n-init c =
     let n = c.args.n in
     let back : n - 4 + 4 ≡ n = omega (arith, c.if-n-lt4.false) in
     (c.requires.0, omega (arith, c.requires.1, c.if-n-lt4.false), omega (arith, c.requires.2, c.if-n-lt4.false), rw back (none_behind c.args.table.now c.requires.0 (32 - n) n (omega (arith, c.requires.1)) c.requires.3))
-
-pub overflow_mul-i : goal.overflow_mul-i
-overflow_mul-i c = omega (arith, c.loop-n.invariant.1)
-
-pub linkless_four-requires : goal.linkless_four-requires
-linkless_four-requires c = tt
 
 pub returns-then-i-lt4 : goal.returns-then-i-lt4
 returns-then-i-lt4 c =

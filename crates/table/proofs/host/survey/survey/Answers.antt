@@ -1,34 +1,27 @@
 -- `table::host::survey::survey` meets its contract: every place passed is well formed, and what is counted of them is all there is at the end.
 -- Assumes nothing.
 use Prim.Native.Nat.{◌-◌}
+use Rattle.peer.specs.Fit.{links_fit}
+use Rattle.table.specs.Fit.{links_apart}
+use Rattle.table.specs.Places.{addresses_of, all_of, link_addresses_of}
+use Rattle.table.specs.Rows.{records_of}
 use Rattle.table.proofs.Octets.Surveys.{same_address, says_nothing, surveyed_all, surveyed_free, surveyed_from, surveyed_plain, surveyed_used, unfit_row, unfit_settings}
 use borrow.Author.Rules.{rules}
 use lib.ListN.{length-set}
-use mathlib.Core.Bool.{true}
-use mathlib.Core.Path.{◌∙◌, sym}
+use mathlib.Core.Bool.{true, ◌&&◌}
+use mathlib.Core.Path.{◌≡◌, ◌∙◌, refl, sym}
 use native.Mathlib.Omega.{arith}
 use Rattle.table.proofs.host.survey.survey.Goals as goal
-
-pub ill-requires : goal.ill-requires
-ill-requires c = tt
+use Rattle.table.proofs.host.survey.survey.Goals.{then-sparse, else-sparse}
 
 pub returns-then-table-ne1536 : goal.returns-then-table-ne1536
 returns-then-table-ne1536 c = absurd (c.if-table-ne1536.true c.requires)
 
-pub fit-requires : goal.fit-requires
-fit-requires c = tt
-
-pub ill-requires-else-fit : goal.ill-requires-else-fit
-ill-requires-else-fit c = tt
-
-pub returns-else-fit : goal.returns-else-fit
-returns-else-fit c = says_nothing _ _ c.ill-else-fit.ensures (unfit_settings _ _ (sym c.fit.ensures ∙ c.if-fit.false))
+pub returns-then-not-fit : goal.returns-then-not-fit
+returns-then-not-fit c = says_nothing _ _ c.ill-then-not-fit.ensures (unfit_settings _ _ (sym c.fit.ensures ∙ c.if-not-fit.true))
 
 pub loop-i-init : goal.loop-i-init
-loop-i-init c = (sym c.fit.ensures ∙ c.if-fit.true, search rules, surveyed_from _ _ c.requires _ (search rules) (32 - c.used-n.result) _ (omega (arith, c.used-n.ensures.0)) c.used-n.ensures.2)
-
-pub ill-requires-then-i-gt32 : goal.ill-requires-then-i-gt32
-ill-requires-then-i-gt32 c = tt
+loop-i-init c = (sym c.fit.ensures ∙ c.if-not-fit.false, search rules, surveyed_from _ _ c.requires _ (search rules) (32 - c.used-n.result) _ (omega (arith, c.used-n.ensures.0)) c.used-n.ensures.2)
 
 pub returns-then-i-gt32 : goal.returns-then-i-gt32
 returns-then-i-gt32 c = absurd (omega (arith, c.if-i-gt32.true, c.loop-i.invariant.2.tally.low))
@@ -45,17 +38,8 @@ overflow_sub-i c = omega (arith, (c.clear.ensures c.loop-i-2-test.true).0)
 pub overflow_mul-i : goal.overflow_mul-i
 overflow_mul-i c = omega (arith, c.loop-i-2.invariant.3.tally.low)
 
-pub row_at-r-requires : goal.row_at-r-requires
-row_at-r-requires c = tt
-
-pub mark-requires : goal.mark-requires
-mark-requires c = tt
-
 pub bounds-marks-mark : goal.bounds-marks-mark
 bounds-marks-mark c = omega (arith, c.mark.ensures)
-
-pub first_joined-associated-requires : goal.first_joined-associated-requires
-first_joined-associated-requires c = tt
 
 pub counted-joined-requires : goal.counted-joined-requires
 counted-joined-requires c = omega (arith, c.loop-i-2.invariant.3.tally.few, (c.clear.ensures c.loop-i-2-test.true).0)
@@ -74,29 +58,17 @@ loop-i-2-preserved c =
 pub overflow_mul-i-then-i-gt0 : goal.overflow_mul-i-then-i-gt0
 overflow_mul-i-then-i-gt0 c = omega (arith, c.loop-i-2.invariant.3.tally.low)
 
-pub blank_at-requires : goal.blank_at-requires
-blank_at-requires c = tt
-
 pub loop-i-preserved-then-blank_at : goal.loop-i-preserved-then-blank_at
 loop-i-preserved-then-blank_at c = (c.loop-i-2.invariant.0, c.loop-i-2.invariant.2, surveyed_free _ _ _ _ _ _ _ c.loop-i-2.invariant.3 c.if-i-gt0.true (sym c.blank_at.ensures ∙ c.if-blank_at.true))
 
 pub overflow_mul-i-else-blank_at : goal.overflow_mul-i-else-blank_at
 overflow_mul-i-else-blank_at c = omega (arith, c.loop-i-2.invariant.3.tally.low)
 
-pub row_at-r-requires-else-blank_at : goal.row_at-r-requires-else-blank_at
-row_at-r-requires-else-blank_at c = tt
-
 pub row_standing-x-requires : goal.row_standing-x-requires
 row_standing-x-requires c = c.loop-i-2.invariant.0
 
-pub ill-requires-else-x : goal.ill-requires-else-x
-ill-requires-else-x c = tt
-
 pub returns-else-x : goal.returns-else-x
 returns-else-x c = says_nothing _ _ c.ill-else-x.ensures (unfit_row _ _ _ _ _ _ _ c.loop-i-2.invariant.3 c.if-i-gt0.true _ c.row_at-r-else-blank_at.ensures (sym c.blank_at.ensures ∙ c.if-blank_at.false) (sym c.row_standing-x.ensures.0 ∙ c.if-x.false))
-
-pub mark-m-requires : goal.mark-m-requires
-mark-m-requires c = tt
 
 pub bounds-marks-m : goal.bounds-marks-m
 bounds-marks-m c = omega (arith, c.mark-m.ensures)
@@ -104,17 +76,11 @@ bounds-marks-m c = omega (arith, c.mark-m.ensures)
 pub alone-requires : goal.alone-requires
 alone-requires c = omega (arith, c.loop-i-2.invariant.3.tally.low, c.if-i-gt0.true)
 
-pub ill-requires-else-alone : goal.ill-requires-else-alone
-ill-requires-else-alone c = tt
-
 pub returns-else-alone : goal.returns-else-alone
 returns-else-alone c = says_nothing _ _ c.ill-else-alone.ensures (same_address _ _ _ _ _ _ _ c.loop-i-2.invariant.3 c.if-i-gt0.true _ c.row_at-r-else-blank_at.ensures (sym c.row_standing-x.ensures.0 ∙ c.if-x.true) _ c.mark-m.ensures (sym c.alone.ensures ∙ c.if-alone.false))
 
 pub bounds-marks-m-else-blank_at : goal.bounds-marks-m-else-blank_at
 bounds-marks-m-else-blank_at c = omega (arith, c.mark-m.ensures)
-
-pub first_joined-associated-requires-else-blank_at : goal.first_joined-associated-requires-else-blank_at
-first_joined-associated-requires-else-blank_at c = tt
 
 pub counted-joined-requires-else-blank_at : goal.counted-joined-requires-else-blank_at
 counted-joined-requires-else-blank_at c = omega (arith, c.loop-i-2.invariant.3.tally.few, c.if-i-gt0.true)
@@ -139,16 +105,13 @@ loop-i-preserved c = (c.loop-i-2.invariant.0, c.loop-i-2.invariant.2, c.loop-i-2
 pub any_linked-linked-requires : goal.any_linked-linked-requires
 any_linked-linked-requires c = (c.loop-i.invariant.2.long, c.used-n.ensures.0, c.used-n.ensures.1, c.used-n.ensures.2)
 
-pub sparse-well-requires : goal.sparse-well-requires
-sparse-well-requires c = tt
-
 pub links_well-requires : goal.links_well-requires
 links_well-requires c = (c.loop-i.invariant.2.long, c.any_linked-linked.ensures)
 
-pub both-requires : goal.both-requires
-both-requires c = tt
-
 pub returns : goal.returns
 returns c =
-    let f = surveyed_all _ _ _ _ _ _ _ c.loop-i.invariant.2 c.loop-i-test.false c.loop-i.invariant.0 _ c.any_linked-linked.ensures _ c.sparse-well.ensures _ c.links_well.ensures _ c.both.ensures in
+    let rows = records_of c.args.table.now in
+    let well : c.if-sparse.result ≡ (c.sparse.result && (all_of (links_fit c.args.s) rows && links_apart (link_addresses_of rows) (addresses_of rows))) =
+    elim c.if-sparse.branch [ then-sparse w ↦ w.result-is ∙ rw w.if-sparse.true w.links_well.ensures | else-sparse w ↦ w.result-is ∙ rw w.if-sparse.false ] in
+    let f = surveyed_all _ _ _ _ _ _ _ c.loop-i.invariant.2 c.loop-i-test.false c.loop-i.invariant.0 _ c.any_linked-linked.ensures _ c.sparse.ensures _ refl _ well in
     (f.0, λ t. (c.others.ensures _ (f.1 t).0 (f.1 t).1, (f.1 t).2))

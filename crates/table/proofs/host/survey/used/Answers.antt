@@ -15,24 +15,15 @@ returns-then-table-ne1536 c = absurd (c.if-table-ne1536.true c.requires)
 pub loop-i-init : goal.loop-i-init
 loop-i-init c = (c.requires, omega arith, λ j l h. absurd (omega arith))
 
-pub overflow_mul-i : goal.overflow_mul-i
-overflow_mul-i c = omega (arith, c.loop-i.invariant.1)
-
-pub blank_four-requires : goal.blank_four-requires
-blank_four-requires c = tt
-
-pub overflow_mul-result : goal.overflow_mul-result
-overflow_mul-result c = omega (arith, c.loop-i.invariant.1)
-
-pub returns-else-blank_four : goal.returns-else-blank_four
-returns-else-blank_four c = (omega (arith, c.loop-i.invariant.1), omega arith, c.loop-i.invariant.2)
+pub returns-then-not-blank_four : goal.returns-then-not-blank_four
+returns-then-not-blank_four c = (omega (arith, c.loop-i.invariant.1), omega arith, λ j l h. c.loop-i.invariant.2 j (omega arith) h)
 
 pub loop-i-preserved : goal.loop-i-preserved
 loop-i-preserved c =
     let i = c.loop-i.i in
     let more = c.loop-i-test.true in
     let free : ℕ → Type 0 = λ j. blank_at (48 * j) c.args.table.now ≡ true in
-    let last = both _ _ (sym c.blank_four.ensures ∙ c.if-blank_four.true) in
+    let last = both _ _ (sym c.blank_four.ensures ∙ c.if-not-blank_four.false) in
     let third = both _ _ last.1 in
     let second = both _ _ third.1 in
     let p3 : 48 * (4 * i - 1) ≡ 192 * (i - 1) + 144 = omega (arith, more) in

@@ -9,6 +9,3 @@ use Rattle.table.proofs.host.survey.used.Given as goal
 
 abbrev pub invariant-loop-i : goal.invariant-loop-i
 invariant-loop-i l = (length l.table ≡ 1536) × (l.i ≤ 8) × ((j : ℕ) → 4 * l.i ≤ j → j < 32 → blank_at (48 * j) l.table ≡ true)
-
-abbrev pub decreases-loop-i : goal.decreases-loop-i
-decreases-loop-i l = l.i

@@ -8,6 +8,3 @@ pub returns-then-lent-room : goal.returns-then-lent-room
 returns-then-lent-room c =
     let a = c.args in
     c.plain.ensures ∙ short_buffer a.table.now a.s a.e a.frame.now a.lent (rw c.room.ensures at c.if-lent-room.true)
-
-pub returns : goal.returns
-returns c = c.known_why.ensures _ c.checked-k.ensures (rw c.room.ensures at c.if-lent-room.false)

@@ -1,43 +1,24 @@
--- `table::records::apart::links_apart` meets its contract: what holds from the slot reached on holds at all.
+-- `table::records::apart::links_apart` meets its contract: the links are distinct, and each is apart from the addresses.
 -- Assumes nothing.
-use Rattle.table.proofs.Passes.Lists.{join}
-use Rattle.table.proofs.Passes.Loops.{tails_end, tails_no, tails_yes}
-use Rattle.table.proofs.Walks.LinkLists.{length_links}
-use Rattle.table.specs.Fit.{alone_in}
+use Rattle.std.proofs.Common.{◌≡◌, ℕ, List, true, false, not, ◌||◌, rules, tests, sym, ◌∙◌}
+use Rattle.std.proofs.lemmas.Iterator.{YieldsList-from_slice}
+use Rattle.std.proofs.lemmas.Iterator.Search.{all_from_yields_List}
+use Rattle.std.specs.List.{list_all, list_any}
+use Rattle.table.proofs.Passes.Listed.{all_alone, apart_twice}
+use Rattle.table.specs.Fit.{distinct_of}
 use Rattle.table.specs.Places.{link_addresses_of}
-use borrow.Author.Rules.{rules}
-use borrow.Author.Tests.{eq-eqb, ne_eqb}
-use mathlib.Core.Bool.{◌&&◌}
-use mathlib.Core.Path.{◌∙◌, refl, sym}
 use Rattle.table.proofs.records.apart.links_apart.Goals as goal
+use lib.Dec.{eqb}
 
-pub loop-k-init : goal.loop-k-init
-loop-k-init c = (search rules, refl)
+pub returns-then-distinct : goal.returns-then-distinct
+returns-then-distinct c =
+    let ads : List ℕ = c.args.addresses.now in
+    let k : c.all.result ≡ list_all (λ l. eqb l 0 || not (list_any (λ y. eqb y l) ads)) c.links_of-links.result =
+    all_from_yields_List (λ l. eqb l 0 || not (list_any (λ y. eqb y l) ads)) _ _ c.all.result c.all.ensures.ran (YieldsList-from_slice c.links_of-links.result cc) (λ x b q k. search (rules, tests)) in
+    let d : distinct_of (link_addresses_of c.args.t) ≡ true = rw c.links_of-links.ensures at (sym c.distinct.ensures ∙ c.if-distinct.true) in
+    k ∙ sym (rw (apart_twice (link_addresses_of c.args.t) ads, d, all_alone ads (link_addresses_of c.args.t), c.links_of-links.ensures))
 
-pub link_at-l-requires : goal.link_at-l-requires
-link_at-l-requires c = c.loop-k-test.true
-
-pub unlinked_from-requires : goal.unlinked_from-requires
-unlinked_from-requires c = tt
-
-pub returns-else-unlinked_from : goal.returns-else-unlinked_from
-unfolding alone_in
-returns-else-unlinked_from c = tails_no (λ l later. alone_in l later && alone_in l c.args.addresses.now) (link_addresses_of c.args.t) c.loop-k.k _ c.loop-k.invariant.1 0 (rw (length_links c.args.t, c.loop-k.invariant.0) c.loop-k-test.true) (rw (← c.link_at-l.ensures, ne_eqb _ _ c.if-l-ne0.true, sym c.unlinked_from.ensures ∙ c.if-unlinked_from.false))
-
-pub unused_from-requires : goal.unused_from-requires
-unused_from-requires c = tt
-
-pub loop-k-preserved-then-unused_from : goal.loop-k-preserved-then-unused_from
-unfolding alone_in
-loop-k-preserved-then-unused_from c = (c.loop-k.invariant.0, tails_yes (λ l later. alone_in l later && alone_in l c.args.addresses.now) (link_addresses_of c.args.t) c.loop-k.k _ c.loop-k.invariant.1 0 (rw (length_links c.args.t, c.loop-k.invariant.0) c.loop-k-test.true) (rw (← c.link_at-l.ensures, ne_eqb _ _ c.if-l-ne0.true) (join (sym c.unlinked_from.ensures ∙ c.if-unlinked_from.true) (sym c.unused_from.ensures ∙ c.if-unused_from.true))))
-
-pub returns-else-unused_from : goal.returns-else-unused_from
-unfolding alone_in
-returns-else-unused_from c = tails_no (λ l later. alone_in l later && alone_in l c.args.addresses.now) (link_addresses_of c.args.t) c.loop-k.k _ c.loop-k.invariant.1 0 (rw (length_links c.args.t, c.loop-k.invariant.0) c.loop-k-test.true) (rw (← c.link_at-l.ensures, ne_eqb _ _ c.if-l-ne0.true, sym c.unlinked_from.ensures ∙ c.if-unlinked_from.true, sym c.unused_from.ensures ∙ c.if-unused_from.false))
-
-pub loop-k-preserved : goal.loop-k-preserved
-unfolding alone_in
-loop-k-preserved c = (c.loop-k.invariant.0, tails_yes (λ l later. alone_in l later && alone_in l c.args.addresses.now) (link_addresses_of c.args.t) c.loop-k.k _ c.loop-k.invariant.1 0 (rw (length_links c.args.t, c.loop-k.invariant.0) c.loop-k-test.true) (rw (← c.link_at-l.ensures, eq-eqb _ _ c.if-l-ne0.false)))
-
-pub returns : goal.returns
-returns c = tails_end (λ l later. alone_in l later && alone_in l c.args.addresses.now) (link_addresses_of c.args.t) c.loop-k.k _ c.loop-k.invariant.1 (rw (length_links c.args.t, c.loop-k.invariant.0) c.loop-k-test.false)
+pub returns-else-distinct : goal.returns-else-distinct
+returns-else-distinct c =
+    let d : distinct_of (link_addresses_of c.args.t) ≡ false = rw c.links_of-links.ensures at (sym c.distinct.ensures ∙ c.if-distinct.false) in
+    c.if-distinct.false ∙ sym (rw (apart_twice (link_addresses_of c.args.t) c.args.addresses.now, d))

@@ -2,14 +2,5 @@
 -- Assumes nothing.
 use Rattle.table.proofs.records.ask.ask.Goals as goal
 
-pub asked-c-requires : goal.asked-c-requires
-asked-c-requires c = tt
-
-pub met-requires : goal.met-requires
-met-requires c = tt
-
-pub finish-requires : goal.finish-requires
-finish-requires c = tt
-
 pub returns : goal.returns
 returns c = rw (← c.asked-c.ensures, ← c.met.ensures) c.finish.ensures

@@ -10,13 +10,13 @@ pub returns-then-room-lt-LONGEST : goal.returns-then-room-lt-LONGEST
 unfolding asked_of first_of unless
 returns-then-room-lt-LONGEST c = rw (lt-ltb _ _ c.if-room-lt-LONGEST.true) (c.refused.ensures c.args.t)
 
-pub returns-else-well : goal.returns-else-well
+pub returns-then-not-well : goal.returns-then-not-well
 unfolding asked_of first_of unless
-returns-else-well c = rw (le-ltb _ _ c.if-room-lt-LONGEST.false, ← well_of c.args.s c.args.t c.survey-v.result c.survey-v.ensures _ c.well.ensures, c.if-well.false) (c.refused-else-well.ensures c.args.t)
+returns-then-not-well c = rw (le-ltb _ _ c.if-room-lt-LONGEST.false, ← well_of c.args.s c.args.t c.survey-v.result c.survey-v.ensures _ c.well.ensures, c.if-not-well.true) (c.refused-then-not-well.ensures c.args.t)
 
 pub returns : goal.returns
 unfolding asked_of first_of unless
 returns c =
     let a = c.args in
     let v = c.survey-v in
-    rw (le-ltb _ _ c.if-room-lt-LONGEST.false, ← well_of a.s a.t v.result v.ensures _ c.well.ensures, c.if-well.true, ← v.ensures.3) (c.asked_in.ensures (c.others-o.ensures a.t v.ensures.2 v.ensures.1))
+    rw (le-ltb _ _ c.if-room-lt-LONGEST.false, ← well_of a.s a.t v.result v.ensures _ c.well.ensures, c.if-not-well.false) (c.asked_in.ensures tt (c.others-o.ensures a.t v.ensures.2 v.ensures.1))

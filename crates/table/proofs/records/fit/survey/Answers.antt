@@ -1,52 +1,27 @@
--- `table::records::fit::survey` meets its contract: what is found in the places passed is all there is at the end.
+-- `table::records::fit::survey` meets its contract: each walk over the places finds what is asked of it.
 -- Assumes nothing.
-use Rattle.table.proofs.Passes.Views.{viewed_all, viewed_more, viewed_none}
-use borrow.Author.Rules.{rules}
-use mathlib.Core.Path.{◌∙◌, refl}
-use native.Mathlib.Omega.{arith}
+use Rattle.std.proofs.Common.{◌≡◌, rules, tests, sym, ◌∙◌}
+use Rattle.std.proofs.lemmas.Iterator.{YieldsList-from_slice}
+use Rattle.std.proofs.lemmas.Iterator.Consumers.{YieldsList-at, YieldsList-from_filter, count_from_yields_List}
+use Rattle.std.proofs.lemmas.Iterator.Search.{all_from_yields_List, find_from_yields_List}
+use Rattle.peer.specs.Fit.{place_fits}
+use Rattle.peer.specs.Record.{is_joined, associates, free_of}
+use Rattle.table.proofs.Passes.Listed.{all_listed, count_listed, lent_joined, made_of}
+use Rattle.table.specs.Fit.{crowd_of}
+use Rattle.table.specs.Places.{count_of}
 use Rattle.table.proofs.records.fit.survey.Goals as goal
 
-pub loop-i-init : goal.loop-i-init
-loop-i-init c = viewed_none _ _ _ (search rules) (search rules)
-
-pub offset_bounds-t-i : goal.offset_bounds-t-i
-offset_bounds-t-i c = omega (arith, c.loop-i.invariant.tally.low)
-
-pub bounds-t-i : goal.bounds-t-i
-bounds-t-i c = omega (arith, c.loop-i.invariant.tally.long, c.loop-i.invariant.tally.low)
-
-pub place_fits-requires : goal.place_fits-requires
-place_fits-requires c = tt
-
-pub both-fit-requires : goal.both-fit-requires
-both-fit-requires c = tt
-
-pub is_joined-requires : goal.is_joined-requires
-is_joined-requires c = tt
-
-pub first_joined-associated-requires : goal.first_joined-associated-requires
-first_joined-associated-requires c = tt
-
-pub is_joined-requires-in-loop-i : goal.is_joined-requires-in-loop-i
-is_joined-requires-in-loop-i c = tt
-
-pub counted-joined-requires : goal.counted-joined-requires
-counted-joined-requires c = omega (arith, c.loop-i.invariant.tally.few, c.loop-i-test.true)
-
-pub is_associating-requires : goal.is_associating-requires
-is_associating-requires c = tt
-
-pub counted-associating-requires : goal.counted-associating-requires
-counted-associating-requires c = omega (arith, c.loop-i.invariant.tally.few', c.loop-i-test.true)
-
-pub offset_bounds-addresses-i : goal.offset_bounds-addresses-i
-offset_bounds-addresses-i c = omega (arith, c.loop-i.invariant.tally.low)
-
-pub bounds-addresses-i : goal.bounds-addresses-i
-bounds-addresses-i c = omega (arith, c.loop-i.invariant.named.wide, c.loop-i.invariant.tally.low, c.loop-i-test.true)
-
-pub loop-i-preserved : goal.loop-i-preserved
-loop-i-preserved c = viewed_more _ _ _ _ _ _ _ _ c.loop-i.invariant c.loop-i-test.true _ refl _ (c.both-fit.ensures ∙ rw c.place_fits.ensures) _ (c.first_joined-associated.ensures ∙ rw c.is_joined.ensures) _ (c.counted-joined.ensures ∙ rw c.is_joined-in-loop-i.ensures) _ (c.counted-associating.ensures ∙ rw c.is_associating.ensures)
-
 pub returns : goal.returns
-returns c = viewed_all _ _ _ _ _ _ _ _ c.loop-i.invariant c.loop-i-test.false
+unfolding crowd_of
+returns c =
+    let joined : c.count.result ≡ count_of is_joined c.args.t =
+    count_from_yields_List c.filter.result _ c.count.ensures.ran (YieldsList-from_filter _ is_joined (YieldsList-at c.filter.ensures.source (YieldsList-from_slice c.args.t cc)) c.filter.ensures.closure (λ x b q k. search (rules, tests)))
+    ∙ count_listed is_joined c.args.t in
+    let associating : c.count-2.result ≡ count_of associates c.args.t =
+    count_from_yields_List c.filter-2.result _ c.count-2.ensures.ran (YieldsList-from_filter _ associates (YieldsList-at c.filter-2.ensures.source (YieldsList-from_slice c.args.t cc)) c.filter-2.ensures.closure (λ x b q k. search (rules, tests)))
+    ∙ count_listed associates c.args.t in (
+      all_from_yields_List (place_fits c.args.s) _ _ c.all.result c.all.ensures.ran (YieldsList-from_slice c.args.t cc) (λ x b q k. search (rules, tests)) ∙ sym (all_listed (place_fits c.args.s) c.args.t),
+      rw (joined, associating),
+      lent_joined c.args.t _ (find_from_yields_List is_joined _ _ c.find.result c.find.ensures.ran (YieldsList-from_slice c.args.t cc) (λ x b q k. search (rules, tests))) _ c.map_or.ensures (λ x q. search rules),
+      made_of (λ p. p.address) c.args.t c.map.result (search rules) (λ i d e h. let w = c.map.ensures.items.at i d e (search rules) in search (rules, tests)) free_of,
+    )

@@ -2,14 +2,5 @@
 -- Assumes nothing.
 use Rattle.table.proofs.records.link.link.Goals as goal
 
-pub linked-c-requires : goal.linked-c-requires
-linked-c-requires c = tt
-
-pub met-requires : goal.met-requires
-met-requires c = tt
-
-pub finish-requires : goal.finish-requires
-finish-requires c = tt
-
 pub returns : goal.returns
 returns c = rw (← c.linked-c.ensures, ← c.met.ensures) c.finish.ensures

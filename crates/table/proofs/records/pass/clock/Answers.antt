@@ -11,15 +11,9 @@ use mathlib.Core.Path.{refl}
 use Rattle.peer.specs.declared.record.Record.{Record}
 use Rattle.table.proofs.records.pass.clock.Goals as goal
 
-pub loop-i-init : goal.loop-i-init
-loop-i-init c = record { told = told_none _ _ _ _ (search rules); long = search rules; rest = refl; rows = refl }
-
-pub tick-q-requires : goal.tick-q-requires
-tick-q-requires c = tt
-
 pub loop-i-preserved : goal.loop-i-preserved
 loop-i-preserved c =
-    let here : Record = get_or c.loop-i.next c.loop-i.i free_of in
+    let here : Record = get_or c.loop-i.p-items c.loop-i.i free_of in
     let told : List ℕ = report_for c.loop-i.i c.tick-q.result.report here.address in
     kept_step _ _ _ _ _ _ _ _ c.loop-i.invariant c.loop-i-test.true c.tick-q.result.peer told (rw c.tick-q.ensures) (rw c.tick-q.ensures) (report_short _ _ _) _ c.put_report-n.ensures.0 _ c.put_report-n.ensures.1
 

@@ -15,13 +15,13 @@ pub returns-then-out-lt256 : goal.returns-then-out-lt256
 unfolding passed_of passed_in first_of
 returns-then-out-lt256 c = rw (lt-ltb _ _ c.if-out-lt256.true, ← c.refusal.ensures) (refl, refl)
 
-pub returns-else-well_formed : goal.returns-else-well_formed
+pub returns-then-not-well_formed : goal.returns-then-not-well_formed
 unfolding passed_of passed_in first_of
-returns-else-well_formed c = rw (le-ltb _ _ c.if-out-lt256.false, ← c.well_formed-2.ensures, c.if-well_formed.false, ← c.refusal-else-well_formed.ensures) (refl, refl)
+returns-then-not-well_formed c = rw (le-ltb _ _ c.if-out-lt256.false, ← c.well_formed-2.ensures, c.if-not-well_formed.true, ← c.refusal-then-not-well_formed.ensures) (refl, refl)
 
 pub returns : goal.returns
 returns c =
     let a = c.args in
-    let w = sym c.well_formed-2.ensures ∙ c.if-well_formed.true in
+    let w = sym c.well_formed-2.ensures ∙ c.if-not-well_formed.false in
     let p = rules_tick a.s a.t (event.Clock a.d) [] a.out.now c.if-out-lt256.false refl in
     (c.ticked.ensures.0 ∙ p.0 ∙ ruled_is_step a.s a.t w (event.Clock a.d) [] (length a.out.now), c.ticked.ensures.1 ∙ p.1 ∙ ruled_in_step a.s a.t w (event.Clock a.d) [] a.out.now)

@@ -1,20 +1,12 @@
--- `table::records::places::find` meets its contract: what is found from the place reached on is what is found at all.
+-- `table::records::places::find` meets its contract: the first place that has the address.
 -- Assumes nothing.
-use Rattle.table.proofs.Passes.Loops.{first_end, first_no, first_yes}
-use borrow.Author.Rules.{rules}
-use borrow.Author.Tests.{eq-eqb, ne_eqb}
-use mathlib.Core.Path.{refl}
-use native.Mathlib.Omega.{arith}
+use Rattle.std.proofs.Common.{◌≡◌, ◌∙◌, rules, tests, eqb}
+use Rattle.std.specs.List.{position}
+use Rattle.std.proofs.lemmas.Iterator.{YieldsList-from_slice}
+use Rattle.std.proofs.lemmas.Iterator.Search.{position_from_yields_List}
+use Rattle.table.proofs.Passes.Listed.{found_at}
 use Rattle.table.proofs.records.places.find.Goals as goal
 
-pub loop-i-init : goal.loop-i-init
-loop-i-init c = (search rules, refl)
-
-pub returns-then-addresses-i : goal.returns-then-addresses-i
-returns-then-addresses-i c = first_yes _ _ _ _ c.loop-i.invariant.1 0 (omega arith) (eq-eqb _ _ c.if-addresses-i.true)
-
-pub loop-i-preserved : goal.loop-i-preserved
-loop-i-preserved c = (omega arith, first_no _ _ _ _ c.loop-i.invariant.1 0 (omega arith) (ne_eqb _ _ c.if-addresses-i.false))
-
 pub returns : goal.returns
-returns c = first_end _ _ _ _ c.loop-i.invariant.1 (omega arith)
+returns c =
+    position_from_yields_List (λ b. eqb b c.args.address) _ _ c.position.result c.position.ensures.ran (YieldsList-from_slice c.args.addresses.now cc) (λ x b q k. search (rules, tests)) ∙ found_at (λ b. eqb b c.args.address) c.args.addresses.now

@@ -8,9 +8,6 @@ pub returns-then-address-eq0 : goal.returns-then-address-eq0
 unfolding find_link_of
 returns-then-address-eq0 c = rw (eq-eqb _ _ c.if-address-eq0.true)
 
-pub first_link-requires : goal.first_link-requires
-first_link-requires c = tt
-
 pub returns : goal.returns
 unfolding find_link_of
 returns c = rw (ne_eqb _ _ c.if-address-eq0.false) c.first_link.ensures

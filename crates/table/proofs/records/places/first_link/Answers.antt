@@ -12,15 +12,9 @@ use mathlib.Core.Path.{◌∙◌, refl, sym}
 use native.Mathlib.Omega.{arith}
 use Rattle.table.proofs.records.places.first_link.Goals as goal
 
-pub search-init : goal.search-init
-search-init c = (search rules, omega arith, refl, refl)
-
 pub loop-j-init : goal.loop-j-init
 loop-j-init c =
     (omega arith, c.search.invariant.2, first_in (λ l. eqb l c.args.address) (λ p. links_of p.links) _ _ _ c.search.invariant.3 free_of (rw c.search.invariant.0 c.search-test.true))
-
-pub at-requires : goal.at-requires
-at-requires c = tt
 
 pub loop-j-preserved : goal.loop-j-preserved
 loop-j-preserved c =

@@ -8,9 +8,6 @@ use native.Mathlib.Omega.{arith}
 use lib.ListN.{get_or-eq_default}
 use Rattle.table.proofs.records.places.look.Goals as goal
 
-pub free-requires : goal.free-requires
-free-requires c = tt
-
 pub returns-else-i-lt32 : goal.returns-else-i-lt32
 returns-else-i-lt32 c =
     let long : length c.args.t ≡ 32 = search rules in

@@ -9,13 +9,5 @@ use Rattle.table.proofs.records.play.addresses_of.Goals as goal
 pub loop-i-init : goal.loop-i-init
 loop-i-init c = (search rules, omega arith, named_none _ _ (search rules) (search rules))
 
-pub bounds-addresses-i : goal.bounds-addresses-i
-bounds-addresses-i c = omega (arith, c.loop-i.invariant.2.wide, c.loop-i.invariant.1)
-
 pub loop-i-preserved : goal.loop-i-preserved
 loop-i-preserved c = (c.loop-i.invariant.0, omega arith, named_more _ _ _ c.loop-i.invariant.0 c.loop-i.invariant.1 c.loop-i.invariant.2 c.loop-i-test.true _ refl)
-
-pub returns : goal.returns
-returns c =
-    let first : c.loop-i.i ≡ 0 = omega arith in
-    rw first at c.loop-i.invariant.2.same

@@ -8,12 +8,6 @@ use mathlib.Core.Path.{◌∙◌, refl}
 use native.Mathlib.Omega.{arith}
 use Rattle.table.proofs.records.play.others_of.Goals as goal
 
-pub answers-requires : goal.answers-requires
-answers-requires c = tt
-
-pub nobody-requires : goal.nobody-requires
-nobody-requires c = tt
-
 pub returns-then-answers : goal.returns-then-answers
 unfolding others_of
 returns-then-answers c = c.nobody.ensures ∙ search (tests, c.if-answers.true, ← c.answers.ensures)
@@ -21,32 +15,8 @@ returns-then-answers c = c.nobody.ensures ∙ search (tests, c.if-answers.true, 
 pub loop-i-init : goal.loop-i-init
 loop-i-init c = tallied_none _ (search rules) _ refl
 
-pub offset_bounds-t-i : goal.offset_bounds-t-i
-offset_bounds-t-i c = omega (arith, c.loop-i.invariant.low)
-
-pub bounds-t-i : goal.bounds-t-i
-bounds-t-i c = omega (arith, c.loop-i.invariant.long, c.loop-i.invariant.low)
-
-pub is_joined-on-requires : goal.is_joined-on-requires
-is_joined-on-requires c = tt
-
-pub first_joined-associated-requires : goal.first_joined-associated-requires
-first_joined-associated-requires c = tt
-
-pub counted-joined-requires : goal.counted-joined-requires
-counted-joined-requires c = omega (arith, c.loop-i.invariant.few, c.loop-i-test.true)
-
-pub is_associating-requires : goal.is_associating-requires
-is_associating-requires c = tt
-
-pub counted-associating-requires : goal.counted-associating-requires
-counted-associating-requires c = omega (arith, c.loop-i.invariant.few', c.loop-i-test.true)
-
 pub loop-i-preserved : goal.loop-i-preserved
 loop-i-preserved c = tallied_more _ _ _ _ _ c.loop-i.invariant c.loop-i-test.true _ refl _ (c.first_joined-associated.ensures ∙ rw c.is_joined-on.ensures) _ (c.counted-joined.ensures ∙ rw c.is_joined-on.ensures) _ (c.counted-associating.ensures ∙ rw c.is_associating.ensures)
-
-pub others-requires : goal.others-requires
-others-requires c = tt
 
 pub returns : goal.returns
 returns c = let e = tallied_all _ _ _ _ _ c.loop-i.invariant c.loop-i-test.false in c.others.ensures _ e.0 e.1

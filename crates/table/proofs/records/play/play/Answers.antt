@@ -11,9 +11,6 @@ returns-then-out-room c =
     let a = c.args in
     rw c.refusal.ensures (rules_short a.s a.t a.e a.frame.now a.out.now (rw c.room.ensures at c.if-out-room.true))
 
-pub ticked-requires : goal.ticked-requires
-ticked-requires c = omega (arith, c.room.ensures, tick_room c.args.e (sym c.ticks.ensures ∙ c.if-ticks.true), c.if-out-room.false)
-
 pub returns-then-ticks : goal.returns-then-ticks
 returns-then-ticks c =
     let a = c.args in
@@ -24,5 +21,5 @@ pub returns : goal.returns
 returns c =
     let a = c.args in
     let p = rules_change a.s a.t a.e a.frame.now a.out.now (rw c.room.ensures at c.if-out-room.false) (sym c.ticks.ensures ∙ c.if-ticks.false) in
-    let m = c.met.ensures ∙ c.change-c.ensures in
+    let m = c.met.ensures ∙ c.changed-c.ensures in
     (c.finish.ensures.0 ∙ rw m p.0, c.finish.ensures.1 ∙ rw m p.1)

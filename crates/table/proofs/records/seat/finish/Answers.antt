@@ -3,9 +3,6 @@
 use Rattle.table.specs.Answer.{stepped_of}
 use Rattle.table.proofs.records.seat.finish.Goals as goal
 
-pub answered-requires : goal.answered-requires
-answered-requires c = tt
-
 pub returns : goal.returns
 unfolding stepped_of
 returns c = (rw c.answered.ensures.0, c.answered.ensures.1)

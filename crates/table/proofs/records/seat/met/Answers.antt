@@ -1,15 +1,13 @@
--- `table::records::seat::met` meets its contract: each answer by the tests that led to it and what its callees ensure.
+-- `table::records::seat::met` meets its contract: the table stays, or the record is stored.
 -- Assumes nothing.
 use Rattle.table.specs.Seat.{met_of}
 use Rattle.table.proofs.records.seat.met.Goals as goal
+use Rattle.table.proofs.records.seat.met.Goals.{in-None, in-Some}
 
-pub stored-requires : goal.stored-requires
-stored-requires c = tt
-
-pub returns-in-Nothing : goal.returns-in-Nothing
+pub returns : goal.returns
 unfolding met_of
-returns-in-Nothing c = rw c.in-Nothing.is
-
-pub returns-in-At : goal.returns-in-At
-unfolding met_of
-returns-in-At c = rw (c.in-At.is, c.stored.ensures)
+returns c =
+    elim c.match-c.branch [
+      | in-None w ↦ rw (w.table-is, w.in-None.is)
+      | in-Some w ↦ rw (w.table-is, w.in-Some.is, w.stored-table.ensures)
+    ]

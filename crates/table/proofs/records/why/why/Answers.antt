@@ -9,13 +9,13 @@ pub returns-then-lent-room : goal.returns-then-lent-room
 unfolding why_of
 returns-then-lent-room c = rw (← c.room.ensures, lt-ltb _ _ c.if-lent-room.true) c.plain.ensures
 
-pub returns-else-well : goal.returns-else-well
+pub returns-then-not-well : goal.returns-then-not-well
 unfolding why_of
-returns-else-well c = rw (← c.room.ensures, le-ltb _ _ c.if-lent-room.false, ← well_of c.args.s c.args.t c.survey-v.result c.survey-v.ensures _ c.well.ensures, c.if-well.false) c.plain-else-well.ensures
+returns-then-not-well c = rw (← c.room.ensures, le-ltb _ _ c.if-lent-room.false, ← well_of c.args.s c.args.t c.survey-v.result c.survey-v.ensures _ c.well.ensures, c.if-not-well.true) c.plain-then-not-well.ensures
 
 pub returns : goal.returns
 unfolding why_of
 returns c =
     let a = c.args in
     let v = c.survey-v in
-    rw (← c.room.ensures, le-ltb _ _ c.if-lent-room.false, ← well_of a.s a.t v.result v.ensures _ c.well.ensures, c.if-well.true, ← v.ensures.3) (c.why_at.ensures (c.others-o.ensures a.t v.ensures.2 v.ensures.1))
+    rw (← c.room.ensures, le-ltb _ _ c.if-lent-room.false, ← well_of a.s a.t v.result v.ensures _ c.well.ensures, c.if-not-well.false) (c.why_at.ensures tt (λ y. c.others-o.ensures a.t v.ensures.2 v.ensures.1))

@@ -4,30 +4,9 @@ use Rattle.table.specs.Refusals.{unless}
 use borrow.Author.Tests.{eq-eqb, ne_eqb}
 use Rattle.table.proofs.rules.ask.asked_at.Goals as goal
 
-pub refusal-n-requires : goal.refusal-n-requires
-refusal-n-requires c = tt
-
-pub refused-requires : goal.refused-requires
-refused-requires c = tt
-
 pub returns-then-n-ne0 : goal.returns-then-n-ne0
 unfolding unless
 returns-then-n-ne0 c = λ t. rw (← c.refusal-n.ensures, ne_eqb _ _ c.if-n-ne0.true) (c.refused.ensures t)
-
-pub aid-requires : goal.aid-requires
-aid-requires c = tt
-
-pub ask-requires : goal.ask-requires
-ask-requires c = tt
-
-pub spoken_at-requires : goal.spoken_at-requires
-spoken_at-requires c = tt
-
-pub towards-turn-requires : goal.towards-turn-requires
-towards-turn-requires c = tt
-
-pub turn_in-requires : goal.turn_in-requires
-turn_in-requires c = tt
 
 pub returns : goal.returns
 unfolding unless

@@ -1,23 +1,17 @@
 -- `table::rules::ask::may_ask` meets its contract: each answer by the tests that led to it and what its callees ensure.
 -- Assumes nothing.
-use Rattle.octets.proofs.Branch.{tests}
 use Rattle.table.specs.Ask.{may_ask}
+use borrow.Author.Tests.{eq-eqb, ne_eqb}
 use Rattle.table.proofs.rules.ask.may_ask.Goals as goal
 
-pub code_allowed-requires : goal.code_allowed-requires
-code_allowed-requires c = tt
-
-pub returns-else-code_allowed : goal.returns-else-code_allowed
+pub returns-then-not-code_allowed : goal.returns-then-not-code_allowed
 unfolding may_ask
-returns-else-code_allowed c = search (tests, c.if-code_allowed.false, ← c.code_allowed.ensures)
+returns-then-not-code_allowed c = rw (← c.code_allowed.ensures, c.if-not-code_allowed.true)
 
 pub returns-then-address-s : goal.returns-then-address-s
 unfolding may_ask
-returns-then-address-s c = search (tests, c.if-code_allowed.true, ← c.code_allowed.ensures)
+returns-then-address-s c = rw (← c.code_allowed.ensures, c.if-not-code_allowed.false, ne_eqb _ _ c.if-address-s.true) c.valid.ensures
 
-pub valid-requires : goal.valid-requires
-valid-requires c = tt
-
-pub returns : goal.returns
+pub returns-else-address-s : goal.returns-else-address-s
 unfolding may_ask
-returns c = search (tests, ← c.valid.ensures, c.if-code_allowed.true, ← c.code_allowed.ensures)
+returns-else-address-s c = rw (← c.code_allowed.ensures, c.if-not-code_allowed.false, eq-eqb _ _ c.if-address-s.false)

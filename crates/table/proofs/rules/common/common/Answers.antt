@@ -8,10 +8,10 @@ pub returns-then-first-eq-BEACON : goal.returns-then-first-eq-BEACON
 unfolding common_of
 returns-then-first-eq-BEACON c = rw (eq-eqb _ _ c.if-first-eq-BEACON.true)
 
-pub returns-then-first-ne8 : goal.returns-then-first-ne8
+pub returns-then-first-eq8 : goal.returns-then-first-eq8
 unfolding common_of
-returns-then-first-ne8 c = rw (ne_eqb _ _ c.if-first-eq-BEACON.false, ne_eqb _ _ c.if-first-ne8.true)
+returns-then-first-eq8 c = rw (ne_eqb _ _ c.if-first-eq-BEACON.false, eq-eqb _ _ c.if-first-eq8.true)
 
-pub returns : goal.returns
+pub returns-else-first-eq8 : goal.returns-else-first-eq8
 unfolding common_of
-returns c = rw (ne_eqb _ _ c.if-first-eq-BEACON.false, eq-eqb _ _ c.if-first-ne8.false)
+returns-else-first-eq8 c = rw (ne_eqb _ _ c.if-first-eq-BEACON.false, ne_eqb _ _ c.if-first-eq8.false)

@@ -1,14 +1,9 @@
 -- `table::rules::distinct::distinct` meets its contract: what holds from the place reached on holds at all.
 -- Assumes nothing.
-use Prim.Native.Nat.{◌-◌}
+use Rattle.std.proofs.Common.{◌≡◌, drop}
 use Rattle.table.specs.Fit.{alone_in, distinct_of}
 use Rattle.table.specs.Places.{all_tails}
-use lib.ListN.{drop, length}
-use mathlib.Core.Path.{◌≡◌}
 use Rattle.table.proofs.rules.distinct.distinct.Given as goal
 
 abbrev pub invariant-loop-i : goal.invariant-loop-i
 invariant-loop-i l = all_tails alone_in (drop l.i l.addresses) ≡ distinct_of l.addresses
-
-abbrev pub decreases-loop-i : goal.decreases-loop-i
-decreases-loop-i l = length l.addresses - l.i

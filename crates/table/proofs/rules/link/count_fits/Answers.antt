@@ -4,13 +4,10 @@ use Rattle.octets.proofs.Branch.{tests}
 use Rattle.table.specs.Link.{count_fits}
 use Rattle.table.proofs.rules.link.count_fits.Goals as goal
 
-pub count_in-n-requires : goal.count_in-n-requires
-count_in-n-requires c = tt
-
-pub returns-then-n-gt4 : goal.returns-then-n-gt4
+pub returns-then-n-le4 : goal.returns-then-n-le4
 unfolding count_fits
-returns-then-n-gt4 c = search (tests, ← c.count_in-n.ensures)
+returns-then-n-le4 c = search (tests, ← c.count_in-n.ensures)
 
-pub returns : goal.returns
+pub returns-else-n-le4 : goal.returns-else-n-le4
 unfolding count_fits
-returns c = search (tests, ← c.count_in-n.ensures)
+returns-else-n-le4 c = search (tests, ← c.count_in-n.ensures)

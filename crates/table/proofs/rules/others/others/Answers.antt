@@ -3,12 +3,6 @@
 use Rattle.table.specs.Others.{others_of}
 use Rattle.table.proofs.rules.others.others.Goals as goal
 
-pub answers-requires : goal.answers-requires
-answers-requires c = tt
-
-pub nobody-requires : goal.nobody-requires
-nobody-requires c = tt
-
 pub returns-then-answers : goal.returns-then-answers
 unfolding others_of
 returns-then-answers c = λ t ea ec. rw (← c.answers.ensures, c.if-answers.true) c.nobody.ensures

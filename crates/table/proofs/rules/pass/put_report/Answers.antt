@@ -14,9 +14,6 @@ pub returns-then-kind-eq0 : goal.returns-then-kind-eq0
 unfolding report_for
 returns-then-kind-eq0 c = rw (eq-eqb _ _ c.if-kind-eq0.true) (omega arith, refl)
 
-pub write_report-requires : goal.write_report-requires
-write_report-requires c = tt
-
 pub returns : goal.returns
 unfolding report_for report_written report_bytes octets
 returns c =

@@ -8,9 +8,6 @@ pub returns-then-to-own : goal.returns-then-to-own
 unfolding for_us
 returns-then-to-own c = search tests
 
-pub group-requires : goal.group-requires
-group-requires c = tt
-
-pub returns : goal.returns
+pub returns-else-to-own : goal.returns-else-to-own
 unfolding for_us
-returns c = search (tests, ← c.group.ensures)
+returns-else-to-own c = search (tests, ← c.group.ensures)

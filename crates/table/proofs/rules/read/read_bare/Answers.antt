@@ -4,12 +4,6 @@ use Rattle.octets.proofs.Branch.{tests}
 use Rattle.table.specs.Read.{read_bare}
 use Rattle.table.proofs.rules.read.read_bare.Goals as goal
 
-pub address_at-requires : goal.address_at-requires
-address_at-requires c = tt
-
-pub for_us-requires : goal.for_us-requires
-for_us-requires c = tt
-
 pub returns-then-for_us : goal.returns-then-for_us
 unfolding read_bare
 returns-then-for_us c = search (tests, c.if-for_us.true, ← c.for_us.ensures, ← c.address_at.ensures)

@@ -8,15 +8,6 @@ pub returns-then-broken : goal.returns-then-broken
 unfolding read_from
 returns-then-broken c = search (tests, c.if-broken.true, ← c.broken.ensures)
 
-pub group-requires : goal.group-requires
-group-requires c = tt
-
-pub sorted-requires : goal.sorted-requires
-sorted-requires c = tt
-
-pub read-requires : goal.read-requires
-read-requires c = tt
-
 pub returns : goal.returns
 unfolding read_from
 returns c =

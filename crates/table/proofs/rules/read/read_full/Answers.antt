@@ -4,33 +4,18 @@ use Rattle.octets.proofs.Branch.{tests}
 use Rattle.table.specs.Read.{read_full}
 use Rattle.table.proofs.rules.read.read_full.Goals as goal
 
-pub address_at-to-requires : goal.address_at-to-requires
-address_at-to-requires c = tt
-
-pub for_us-requires : goal.for_us-requires
-for_us-requires c = tt
-
-pub returns-else-for_us : goal.returns-else-for_us
+pub returns-then-not-for_us : goal.returns-then-not-for_us
 unfolding read_full
-returns-else-for_us c = search (tests, c.if-for_us.false, ← c.for_us.ensures, ← c.address_at-to.ensures)
-
-pub address_at-peer-requires : goal.address_at-peer-requires
-address_at-peer-requires c = tt
+returns-then-not-for_us c = search (tests, c.if-not-for_us.true, ← c.for_us.ensures, ← c.address_at-to.ensures)
 
 pub returns-then-peer-own : goal.returns-then-peer-own
 unfolding read_full
-returns-then-peer-own c = search (tests, ← c.address_at-peer.ensures, c.if-for_us.true, ← c.for_us.ensures, ← c.address_at-to.ensures)
-
-pub valid-requires : goal.valid-requires
-valid-requires c = tt
-
-pub read_from-requires : goal.read_from-requires
-read_from-requires c = tt
+returns-then-peer-own c = search (tests, ← c.address_at-peer.ensures, c.if-not-for_us.false, ← c.for_us.ensures, ← c.address_at-to.ensures)
 
 pub returns-then-valid : goal.returns-then-valid
 unfolding read_full
-returns-then-valid c = search (tests, ← c.read_from.ensures, c.if-valid.true, ← c.valid.ensures, ← c.address_at-peer.ensures, c.if-for_us.true, ← c.for_us.ensures, ← c.address_at-to.ensures)
+returns-then-valid c = search (tests, ← c.read_from.ensures, c.if-valid.true, ← c.valid.ensures, ← c.address_at-peer.ensures, c.if-not-for_us.false, ← c.for_us.ensures, ← c.address_at-to.ensures)
 
 pub returns-else-valid : goal.returns-else-valid
 unfolding read_full
-returns-else-valid c = search (tests, c.if-valid.false, ← c.valid.ensures, ← c.address_at-peer.ensures, c.if-for_us.true, ← c.for_us.ensures, ← c.address_at-to.ensures)
+returns-else-valid c = search (tests, c.if-valid.false, ← c.valid.ensures, ← c.address_at-peer.ensures, c.if-not-for_us.false, ← c.for_us.ensures, ← c.address_at-to.ensures)

@@ -4,9 +4,6 @@ use Rattle.table.specs.Seat.{met_of}
 use mathlib.Core.Path.{refl}
 use Rattle.table.proofs.rules.seat.kept.Goals as goal
 
-pub free-requires : goal.free-requires
-free-requires c = tt
-
 pub returns : goal.returns
 unfolding met_of
 returns c = λ t. refl

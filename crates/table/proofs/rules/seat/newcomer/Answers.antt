@@ -3,25 +3,13 @@
 use Rattle.table.specs.Seat.{newcomer_of}
 use Rattle.table.proofs.rules.seat.newcomer.Goals as goal
 
-pub starts-requires : goal.starts-requires
-starts-requires c = tt
-
-pub stranger-requires : goal.stranger-requires
-stranger-requires c = tt
-
-pub seated-requires : goal.seated-requires
-seated-requires c = tt
-
-pub stranger-requires-else-starts : goal.stranger-requires-else-starts
-stranger-requires-else-starts c = tt
-
-pub returns-in-Nothing : goal.returns-in-Nothing
+pub returns-in-None : goal.returns-in-None
 unfolding newcomer_of
-returns-in-Nothing c = λ t. rw (← c.starts.ensures, c.if-starts.true, c.in-Nothing.is) (c.stranger.ensures t)
+returns-in-None c = λ t. rw (← c.starts.ensures, c.if-starts.true, c.in-None.is) (c.stranger.ensures t)
 
-pub returns-in-At : goal.returns-in-At
+pub returns-in-Some : goal.returns-in-Some
 unfolding newcomer_of
-returns-in-At c = λ t. rw (← c.starts.ensures, c.if-starts.true, c.in-At.is) (c.seated.ensures t)
+returns-in-Some c = λ t. rw (← c.starts.ensures, c.if-starts.true, c.in-Some.is) (c.seated.ensures t)
 
 pub returns-else-starts : goal.returns-else-starts
 unfolding newcomer_of

@@ -4,12 +4,6 @@ use Rattle.table.specs.Answer.{refused_of}
 use mathlib.Core.Path.{◌∙◌}
 use Rattle.table.proofs.rules.seat.refused.Goals as goal
 
-pub refusal-requires : goal.refusal-requires
-refusal-requires c = tt
-
-pub settled-requires : goal.settled-requires
-settled-requires c = tt
-
 pub returns : goal.returns
 unfolding refused_of
 returns c = λ t. c.settled.ensures t ∙ rw c.refusal.ensures

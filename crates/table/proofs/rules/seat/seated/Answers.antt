@@ -3,9 +3,6 @@
 use Rattle.table.specs.Seat.{met_of, seated_of}
 use Rattle.table.proofs.rules.seat.seated.Goals as goal
 
-pub turn-requires : goal.turn-requires
-turn-requires c = tt
-
 pub returns : goal.returns
 unfolding met_of seated_of
 returns c = λ t. rw c.turn.ensures

@@ -3,9 +3,6 @@
 use Rattle.table.specs.Answer.{settled_of}
 use Rattle.table.proofs.rules.seat.settled.Goals as goal
 
-pub kept-requires : goal.kept-requires
-kept-requires c = tt
-
 pub returns : goal.returns
 unfolding settled_of
 returns c = λ t. c.kept.ensures t

@@ -4,20 +4,10 @@ use Rattle.table.specs.Seat.{starts_of}
 use borrow.Author.Tests.{eq-eqb, ne_eqb}
 use Rattle.table.proofs.rules.seat.starts.Goals as goal
 
-pub under_way-requires : goal.under_way-requires
-under_way-requires c = tt
-
 pub returns-then-under_way-ne0 : goal.returns-then-under_way-ne0
 unfolding starts_of
 returns-then-under_way-ne0 c = rw (← c.under_way.ensures, ne_eqb _ _ c.if-under_way-ne0.true)
 
-pub is_none-requires : goal.is_none-requires
-is_none-requires c = tt
-
-pub returns-then-is_none : goal.returns-then-is_none
+pub returns-else-under_way-ne0 : goal.returns-else-under_way-ne0
 unfolding starts_of
-returns-then-is_none c = rw (← c.under_way.ensures, eq-eqb _ _ c.if-under_way-ne0.false, ← c.is_none.ensures, c.if-is_none.true)
-
-pub returns-else-is_none : goal.returns-else-is_none
-unfolding starts_of
-returns-else-is_none c = rw (← c.under_way.ensures, eq-eqb _ _ c.if-under_way-ne0.false, ← c.is_none.ensures, c.if-is_none.false)
+returns-else-under_way-ne0 c = rw (← c.under_way.ensures, eq-eqb _ _ c.if-under_way-ne0.false, ← c.is_none.ensures)

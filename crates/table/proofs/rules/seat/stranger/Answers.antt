@@ -4,12 +4,6 @@ use Rattle.table.specs.Seat.{stranger_of}
 use mathlib.Core.Path.{◌∙◌}
 use Rattle.table.proofs.rules.seat.stranger.Goals as goal
 
-pub turn-requires : goal.turn-requires
-turn-requires c = tt
-
-pub kept-requires : goal.kept-requires
-kept-requires c = tt
-
 pub returns : goal.returns
 unfolding stranger_of
 returns c = λ t. c.kept.ensures t ∙ rw c.turn.ensures

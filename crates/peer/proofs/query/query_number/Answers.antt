@@ -1,7 +1,0 @@
--- `peer::query::query_number` meets its contract: each answer by the tests that led to it and what its callees ensure.
--- Assumes nothing.
-use Rattle.octets.proofs.Branch.{tests}
-use Rattle.peer.proofs.query.query_number.Goals as goal
-
-pub returns-in-Running : goal.returns-in-Running
-returns-in-Running c = search (tests, ← c.running_number.ensures, c.in-Running.is)

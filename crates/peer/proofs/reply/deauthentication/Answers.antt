@@ -1,9 +1,0 @@
--- `peer::reply::deauthentication` meets its contract: each answer by the tests that led to it and what its callees ensure.
--- Assumes nothing.
-use Rattle.octets.proofs.Branch.{tests}
-use Rattle.peer.specs.Reply.{deauthentication_to}
-use Rattle.peer.proofs.reply.deauthentication.Goals as goal
-
-pub returns : goal.returns
-unfolding deauthentication_to
-returns c = search (tests, ← c.send.ensures)
