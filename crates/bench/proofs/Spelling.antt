@@ -54,7 +54,8 @@ token_append t (x ∷ xs) ys = token_append (token_with t x) xs ys
 
 -- What a token says of a number.
 record Says (t : Token) (n : ℕ) : Type 0 where
-  value : t.value ≡ Some n
+  value : t.value ≡ n
+  fits : t.fits ≡ true
   some : 0 < t.seen
 
 fits_digit : (m d : ℕ) → d < 10 → m * 10 + d < 2 ^ 64 → digit_fits m (48 + d) ≡ true
@@ -67,11 +68,12 @@ seen_some : (n : ℕ) → 0 < seen_with n
 unfolding seen_with
 seen_some n = by_bool (ltb n 9) (λ e. rw e (omega arith)) (λ e. rw e (omega (arith, ltb-false n 9 e)))
 
-digit_more : (t : Token) (m d : ℕ) → t.value ≡ Some m → d < 10 → m * 10 + d < 2 ^ 64 → Says (token_with t (48 + d)) (m * 10 + d)
+digit_more : (t : Token) (m d : ℕ) → t.value ≡ m → t.fits ≡ true → d < 10 → m * 10 + d < 2 ^ 64 → Says (token_with t (48 + d)) (m * 10 + d)
 unfolding token_with value_with
-digit_more t m d e h g =
+digit_more t m d e f h g =
     record {
-      value = rw (e, fits_digit m d h g) (ap Some (omega arith));
+      value = rw (e, fits_digit m d h g) (omega arith);
+      fits = rw (e, f, fits_digit m d h g) refl;
       some = seen_some t.seen;
     }
 
@@ -80,11 +82,11 @@ last_digit : (k n : ℕ) → Says (token_of no_token (tens k (n / 10))) (n / 10)
 last_digit k n s g =
     rw (token_append no_token (tens k (n / 10)) ((48 + n % 10) ∷ []))
     (subst (Says (token_with (token_of no_token (tens k (n / 10))) (48 + n % 10))) (omega arith)
-    (digit_more (token_of no_token (tens k (n / 10))) (n / 10) (n % 10) s.value (omega arith) (omega (arith, g))))
+    (digit_more (token_of no_token (tens k (n / 10))) (n / 10) (n % 10) s.value s.fits (omega arith) (omega (arith, g))))
 
 only_digit : (n : ℕ) → n < 10 → Says (token_of no_token ((48 + n) ∷ [])) n
 only_digit n h =
-    subst (Says (token_with no_token (48 + n))) (omega arith) (digit_more no_token 0 n refl h (omega (arith, h)))
+    subst (Says (token_with no_token (48 + n))) (omega arith) (digit_more no_token 0 n refl refl h (omega (arith, h)))
 
 tens_says : (k n : ℕ) → n < 10 ^ suc k → n < 2 ^ 64 → Says (token_of no_token (tens (suc k) n)) n
 unfolding tens
@@ -96,7 +98,7 @@ tens_says (suc k) n h g =
 
 number_says : (t : Token) (n : ℕ) → Says t n → number_of t ≡ Some (Some n)
 unfolding number_of
-number_says t n s = rw (ne_eqb t.seen 0 (λ e. omega (arith, e, s.some)), s.value)
+number_says t n s = rw (ne_eqb t.seen 0 (λ e. omega (arith, e, s.some)), s.fits) (ap (λ (m : ℕ). Some (Some m)) s.value)
 
 over_says : number_of (token_of no_token over_word) ≡ Some None
 unfolding number_of token_with word_with seen_with value_with digit_fits is_packed

@@ -1,12 +1,12 @@
 -- What stands between two blanks: as a word, and as a number. The printed form of a block is that of the bench: words, numbers in decimal, `over`.
 -- Assumes nothing.
-use Rattle.std.specs.Prelude.{ℕ, ◌+◌, ◌*◌, ◌-◌, ◌^◌, Bool, ◌&&◌, List, [], ◌∷◌, eqb, leb, ltb, length, Option, Some, None, is_some, option_and_then}
+use Rattle.std.specs.Prelude.{ℕ, ◌+◌, ◌*◌, ◌-◌, ◌^◌, Bool, true, ◌&&◌, List, [], ◌∷◌, eqb, leb, ltb, length, Option, Some, None}
 use Rattle.octets.specs.Pick.{pick}
 use Rattle.sums.specs.Sums.{Total}
 use Rattle.sums.specs.declared.token.Token.{Token}
 
 abbrev pub no_token : Token
-no_token = record { word = 0; seen = 0; value = Some 0 }
+no_token = record { word = 0; seen = 0; value = 0; fits = true }
 
 -- An octet more of a word: eight of them fill 64 bits.
 unfoldable pub word_with : ℕ → ℕ → ℕ
@@ -19,15 +19,16 @@ seen_with seen = pick (ltb seen 9) (seen + 1) seen
 unfoldable pub digit_fits : ℕ → ℕ → Bool
 digit_fits value x = leb 48 x && (leb x 57 && ltb (value * 10 + (x - 48)) (2 ^ 64))
 
-unfoldable pub value_with : ℕ → ℕ → Option ℕ
-value_with value x = pick (digit_fits value x) (Some (value * 10 + (x - 48))) None
+unfoldable pub value_with : ℕ → ℕ → ℕ
+value_with value x = pick (digit_fits value x) (value * 10 + (x - 48)) value
 
 unfoldable pub token_with : Token → ℕ → Token
 token_with t x =
     record {
       word = word_with t.word x;
       seen = seen_with t.seen;
-      value = option_and_then (λ value. value_with value x) t.value;
+      value = value_with t.value x;
+      fits = t.fits && digit_fits t.value x;
     }
 
 -- The octets, one behind the other.
@@ -51,4 +52,4 @@ over_word = 111 ∷ 118 ∷ 101 ∷ 114 ∷ []
 
 -- A number in decimal that 64 bits hold; or `over`; or neither.
 unfoldable pub number_of : Token → Option Total
-number_of t = pick (eqb t.seen 0) None (pick (is_some t.value) (Some t.value) (pick (is_word t over_word) (Some None) None))
+number_of t = pick (eqb t.seen 0) None (pick t.fits (Some (Some t.value)) (pick (is_word t over_word) (Some None) None))

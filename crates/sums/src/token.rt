@@ -1,6 +1,7 @@
 // What stands between two blanks, octet by octet: as a word of at most eight octets, and as a number of 64 bits.
-ghost use Rattle.std.specs.Prelude.{◌≡◌};
-ghost use Rattle.sums.specs.Token.{no_token, word_with, seen_with, value_with, token_with, is_packed, number_of};
+ghost use Rattle.std.specs.Prelude.{◌≡◌, ◌+◌, ◌*◌, ◌-◌, None, Some};
+ghost use Rattle.octets.specs.Pick.{pick};
+ghost use Rattle.sums.specs.Token.{no_token, digit_fits, word_with, seen_with, token_with, is_packed, number_of};
 
 use crate::total::Total;
 
@@ -11,7 +12,9 @@ pub struct Token {
     // How many they are; 9 where they are more than eight.
     pub seen: u8,
     // Their value in decimal, where each is a digit and 64 bits hold it.
-    pub value: Option<u64>,
+    pub value: u64,
+    // Whether that is so. Value and flag, and no Option: `token_with`, `is_word` and `number_of` are public, and promise for each pair of the two.
+    pub fits: bool,
 }
 
 // No octet yet.
@@ -21,7 +24,8 @@ pub fn no_token() -> Token
     Token {
         word: 0,
         seen: 0,
-        value: Some(0),
+        value: 0,
+        fits: true,
     }
 }
 
@@ -43,10 +47,10 @@ fn seen_with(seen: u8) -> u8
     if seen < 9 { seen + 1 } else { seen }
 }
 
-// The value with a digit more.
-#[tactic(auto, using(octets::proofs::Branch::tests), unfolding(crate::specs::Token::value_with, crate::specs::Token::digit_fits))]
-fn value_with(value: u64, x: u8) -> Option<u64>
-    ensures { result ≡ value_with value x }
+// The value with x behind, where x is a digit and 64 bits hold it.
+#[tactic(auto, using(octets::proofs::Branch::tests), unfolding(crate::specs::Token::digit_fits))]
+fn value_more(value: u64, x: u8) -> Option<u64>
+    ensures { result ≡ pick (digit_fits value x) (Some (value * 10 + (x - 48))) None }
 {
     if !x.is_ascii_digit() {
         return None;
@@ -55,14 +59,16 @@ fn value_with(value: u64, x: u8) -> Option<u64>
 }
 
 // The token with an octet more.
-#[tactic(auto, unfolding(crate::specs::Token::token_with))]
+#[tactic(auto, using(octets::proofs::Branch::tests), unfolding(crate::specs::Token::token_with, crate::specs::Token::value_with))]
 pub fn token_with(t: Token, x: u8) -> Token
     ensures { result ≡ token_with t x }
 {
+    let more = value_more(t.value, x);
     Token {
         word: word_with(t.word, x),
         seen: seen_with(t.seen),
-        value: t.value.and_then(|n| value_with(n, x)),
+        value: more.unwrap_or(t.value),
+        fits: t.fits && more.is_some(),
     }
 }
 
@@ -82,8 +88,8 @@ pub fn number_of(t: Token) -> Option<Total>
     if t.seen == 0 {
         return None;
     }
-    if t.value.is_some() {
-        return Some(t.value);
+    if t.fits {
+        return Some(Some(t.value));
     }
     // "over"
     is_word(t, 4, 1870030194).then_some(None)
