@@ -1,12 +1,12 @@
 -- The importer, fed in pieces: where it stands, what is still to come of the octets not yet taken, and what one turn does with those at hand.
 -- Assumes nothing.
-use Rattle.std.specs.Prelude.{ℕ, ◌+◌, ◌-◌, ◌≡◌, Bool, true, false, not, List, [], ◌∷◌, ◌++◌, ltb, leb, eqb, length, take, drop}
+use Rattle.std.specs.Prelude.{ℕ, ◌+◌, ◌-◌, ◌≡◌, Bool, true, false, not, List, [], ◌∷◌, ◌++◌, ltb, leb, eqb, length, take, drop, Result, Ok, Err}
 use Rattle.octets.specs.Pick.{pick}
 use Rattle.octets.specs.Stored.{Stored}
 use Rattle.bench.specs.Capture.{big_of, numbered, linked, keeps_of, time_at, captured_at, original_at, walk_from}
 use Rattle.bench.specs.Import.{Item, step, frame, rest_of, written_of, moved_of, due_of, paid_of, counted_of, Imported, stops_at, walked_of, file_of, unstarted, none}
 use Rattle.bench.specs.declared.importer.Refusal.{Refusal}
-use Rattle.bench.specs.declared.importer.Refusal.TheVariants.{OtherNumber, OtherLink, CutShort}
+use Rattle.bench.specs.declared.importer.Refusal.TheVariants.{OtherNumber, OtherLink, CutShort, Other}
 use Rattle.bench.specs.declared.importer.Stage.{Stage}
 use Rattle.bench.specs.declared.importer.Stage.TheVariants.{Head, Between, Passing, Over}
 use Rattle.bench.specs.declared.passed.Clock.{Clock}
@@ -26,6 +26,7 @@ abbrev pub refusal_number : Refusal → ℕ
 refusal_number OtherNumber = 1
 refusal_number OtherLink = 2
 refusal_number CutShort = 3
+refusal_number (Other n) = n
 
 -- What is still to come of the octets not yet taken, by the stage: before the file's header, between packets, within a packet that is left out
 -- with n octets still to pass, and after a refusal.
@@ -102,6 +103,13 @@ end_at Head n = 3
 end_at Between n = pick (eqb n 0) 0 3
 end_at (Passing k) n = 3
 end_at (Over r) n = refusal_number r
+
+-- The same, as the program has it: a good end, or the refusal.
+unfoldable pub ending_of : Stage → ℕ → Result Unit Refusal
+ending_of Head n = Err CutShort
+ending_of Between n = pick (eqb n 0) (Ok tt) (Err CutShort)
+ending_of (Passing k) n = Err CutShort
+ending_of (Over r) n = Err r
 
 -- Whether nothing more of the file is looked at.
 unfoldable pub is_over : Stage → Bool

@@ -1,7 +1,7 @@
 // The importer of captures, one turn at a time: it is handed octets of the file and a state, and puts records out. No packet that is left out
 // and no gap is ever held whole.
 ghost use Rattle.std.specs.Prelude.{◌≡◌, MatchResult};
-ghost use Rattle.bench.specs.Importer.{start_of, head_front, end_at, refusal_number, turned_of, Turned};
+ghost use Rattle.bench.specs.Importer.{start_of, head_front, end_at, ending_of, refusal_number, turned_of, Turned};
 
 use crate::capture::{is_big, is_linked, is_numbered};
 use crate::packet::{between, passing};
@@ -12,11 +12,13 @@ use crate::text::has_room;
 #[derive(Clone, Copy, PartialEq, Eq)]
 pub enum Refusal {
     // The file does not begin with the number of a capture.
-    OtherNumber = 1,
+    OtherNumber,
     // Its link type is another.
-    OtherLink = 2,
+    OtherLink,
     // Its header or a packet is cut.
-    CutShort = 3,
+    CutShort,
+    // By any number. No turn comes to it; a state that is handed in may have it, and the laws of a turn and of the end hold of it too.
+    Other(u8),
 }
 
 // Where the importer stands in the file.
@@ -145,7 +147,8 @@ pub fn turn(xs: &[u8], out: &mut [u8], at: usize, s: State) -> After
 
 // How it ends, once the input has come to its end with so many octets left that no turn takes.
 pub fn ending(s: State, left: usize) -> Result<(), Refusal>
-    ensures { MatchResult result (λ ok. end_at s.stage left ≡ 0) (λ r. end_at s.stage left ≡ refusal_number r) }
+    ensures outcome { result ≡ ending_of s.stage left }
+    ensures number { MatchResult result (λ ok. end_at s.stage left ≡ 0) (λ r. end_at s.stage left ≡ refusal_number r) }
 {
     match s.stage {
         Stage::Head => Err(Refusal::CutShort),
@@ -165,6 +168,11 @@ impl Refusal {
     pub fn number(self) -> u8
         ensures { result ≡ refusal_number self }
     {
-        self as u8
+        match self {
+            Refusal::OtherNumber => 1,
+            Refusal::OtherLink => 2,
+            Refusal::CutShort => 3,
+            Refusal::Other(n) => n,
+        }
     }
 }

@@ -27,6 +27,9 @@ mod trace;
 mod ways;
 mod why;
 
+ghost use Rattle.std.specs.Prelude.{◌≡◌};
+ghost use Rattle.rival.specs.Alike.{same};
+
 use check::check_files;
 use import::import_files;
 use month::month_files;
@@ -51,6 +54,13 @@ fn run_all(rt: &HostRuntime, prints: Prints) {
     }
 }
 
+// Whether a word is a known one, letter by letter.
+fn is_word(word: &[u8], known: &[u8]) -> bool
+    ensures { result ≡ same word.now known.now }
+{
+    word == known
+}
+
 // What the arguments ask for: the program's first word, or none and its lines.
 fn main(rt: HostRuntime) {
     let count = argument_count(&rt);
@@ -58,13 +68,13 @@ fn main(rt: HostRuntime) {
     let n = argument(&rt, 1, &mut word);
     match &word[..n] {
         _ if count <= 1 => run_all(&rt, Prints::Lines),
-        b"import" => import_files(&rt),
-        b"month" => month_files(&rt),
-        b"check" => check_files(&rt),
-        b"trace" if count == 2 => run_all(&rt, Prints::Trace),
-        b"changes" if count == 2 => run_all(&rt, Prints::Changes),
-        b"total" if count == 2 => total_blocks(&rt),
-        b"why" if count == 2 => run_all(&rt, Prints::Why),
+        w if is_word(w, b"import") => import_files(&rt),
+        w if is_word(w, b"month") => month_files(&rt),
+        w if is_word(w, b"check") => check_files(&rt),
+        w if count == 2 && is_word(w, b"trace") => run_all(&rt, Prints::Trace),
+        w if count == 2 && is_word(w, b"changes") => run_all(&rt, Prints::Changes),
+        w if count == 2 && is_word(w, b"total") => total_blocks(&rt),
+        w if count == 2 && is_word(w, b"why") => run_all(&rt, Prints::Why),
         _ => say(
             &rt,
             b"bench: unknown argument: 'trace', 'changes', 'why', 'import SETTINGS CAPTURE', 'month FILE..', 'total', 'check INPUT LOG', or none, with the records on standard input\n",
