@@ -1,7 +1,7 @@
 // Two streams of octets beside each other, our lines and another maker's: how far they are alike, and what is said of the two. 02, K13.
 #![tactic(auto)]
 
-ghost use Rattle.std.specs.Prelude.{◌≡◌};
+ghost use Rattle.std.specs.Prelude.{◌≡◌, get_or};
 ghost use Rattle.rival.specs.Beside.{alone_of, beside_of, compared_of, field_after, other_field, said_by, standing_at_first};
 ghost use Rattle.rival.specs.Log.{one_more};
 ghost use Rattle.rival.specs.Pieces.{settled_of};
@@ -164,7 +164,15 @@ fn alone(s: Standing, field: u64, new: Said) -> Said
     }
 }
 
+// The octet at a place; an end is as a line feed.
+fn octet_or_end(s: &[u8], at: usize) -> u8
+    ensures { result ≡ get_or s.now at 10 }
+{
+    s.get(at).copied().unwrap_or(LF)
+}
+
 // What is said where nothing more comes of either behind `ours` and `theirs`.
+// Two tests, and no match on what `get` gives: behind such a match nothing tells that `ours` has ended, so no edit of it could be refused for that.
 pub fn ending(ours: &[u8], theirs: &[u8], s: Standing) -> Said
     ensures { result ≡ said_by s ours.now theirs.now }
 {
@@ -175,10 +183,13 @@ pub fn ending(ours: &[u8], theirs: &[u8], s: Standing) -> Said
     if t.apart {
         return Said::Differs(next_line(t.lines), t.field);
     }
-    // An end is as a line feed.
-    match (ours.get(at), theirs.get(at)) {
-        (Some(x), _) => alone(t, other_field(t.field, *x, LF), Said::Short(t.lines)),
-        (None, Some(y)) => alone(t, other_field(t.field, LF, *y), Said::Long(t.lines)),
-        (None, None) => Said::Right,
+    let x = octet_or_end(ours, at);
+    if ours.len() <= at {
+        if theirs.len() <= at {
+            return Said::Right;
+        }
+        let y = octet_or_end(theirs, at);
+        return alone(t, other_field(t.field, LF, y), Said::Long(t.lines));
     }
+    alone(t, other_field(t.field, x, LF), Said::Short(t.lines))
 }
