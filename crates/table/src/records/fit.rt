@@ -7,6 +7,7 @@ ghost use Rattle.table.specs.Others.{associated_of};
 ghost use Rattle.table.specs.Fit.{crowd_of, distinct_of, links_apart, well_formed};
 
 use crate::records::apart::links_apart;
+use crate::records::play::addresses_of;
 use crate::rules::distinct::distinct;
 use crate::rules::others::{Counts, sparse};
 use peer::fit::place_fits;
@@ -34,7 +35,7 @@ pub fn survey(s: Settings, t: [Record; 32]) -> View
             associating: t.iter().filter(|p| p.is_associating()).count(),
         },
         associated: t.iter().find(|p| p.is_joined()).map_or(0, |p| p.address),
-        addresses: t.map(|p| p.address),
+        addresses: addresses_of(t),
     }
 }
 

@@ -18,7 +18,8 @@ use peer::refuse::Others;
 use peer::settings::{Settings, answers};
 
 // The address at each place.
-fn addresses_of(t: [Record; 32]) -> [u64; 32]
+// One by one: by `map` of the array a survey took 3,860 instructions more.
+pub(crate) fn addresses_of(t: [Record; 32]) -> [u64; 32]
     ensures { result ≡ addresses_of t }
 {
     let mut addresses = [0u64; 32];

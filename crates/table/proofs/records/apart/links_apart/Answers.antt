@@ -1,24 +1,32 @@
--- `table::records::apart::links_apart` meets its contract: the links are distinct, and each is apart from the addresses.
+-- `table::records::apart::links_apart` meets its contract: what holds from the slot reached on holds at all.
 -- Assumes nothing.
-use Rattle.std.proofs.Common.{◌≡◌, ℕ, List, true, false, not, ◌||◌, rules, tests, sym, ◌∙◌}
-use Rattle.std.proofs.lemmas.Iterator.{YieldsList-from_slice}
-use Rattle.std.proofs.lemmas.Iterator.Search.{all_from_yields_List}
-use Rattle.std.specs.List.{list_all, list_any}
-use Rattle.table.proofs.Passes.Listed.{all_alone, apart_twice}
-use Rattle.table.specs.Fit.{distinct_of}
-use Rattle.table.specs.Places.{link_addresses_of}
+use Rattle.std.proofs.Common.{◌≡◌, sym, ◌∙◌, ℕ, ◌+◌, ◌-◌, true, false, ◌&&◌, List, take, drop, get_or, length, length-drop, arith}
+use borrow.Author.Rules.{rules}
+use lib.Seq.{take_all}
+use mathlib.Core.Path.{ap}
+use Rattle.table.proofs.Passes.Loops.{tails_end, tails_no, tails_yes}
+use Rattle.table.specs.Fit.{alone_in, links_apart}
 use Rattle.table.proofs.records.apart.links_apart.Goals as goal
-use lib.Dec.{eqb}
 
-pub returns-then-distinct : goal.returns-then-distinct
-returns-then-distinct c =
+pub returns-then-not-alone : goal.returns-then-not-alone
+returns-then-not-alone c =
     let ads : List ℕ = c.args.addresses.now in
-    let k : c.all.result ≡ list_all (λ l. eqb l 0 || not (list_any (λ y. eqb y l) ads)) c.links_of-links.result =
-    all_from_yields_List (λ l. eqb l 0 || not (list_any (λ y. eqb y l) ads)) _ _ c.all.result c.all.ensures.ran (YieldsList-from_slice c.links_of-links.result cc) (λ x b q k. search (rules, tests)) in
-    let d : distinct_of (link_addresses_of c.args.t) ≡ true = rw c.links_of-links.ensures at (sym c.distinct.ensures ∙ c.if-distinct.true) in
-    k ∙ sym (rw (apart_twice (link_addresses_of c.args.t) ads, d, all_alone ads (link_addresses_of c.args.t), c.links_of-links.ensures))
+    let links : List ℕ = c.links_of-links.result in
+    let long : length links ≡ 128 = search rules in
+    let behind : take (128 - (c.loop-k.k + 1)) (drop (c.loop-k.k + 1) links) ≡ drop (c.loop-k.k + 1) links = take_all _ _ (rw length-drop (omega (arith, long))) in
+    let no : (alone_in (get_or links c.loop-k.k 0) (drop (c.loop-k.k + 1) links) && alone_in (get_or links c.loop-k.k 0) ads) ≡ false = rw (← behind) (sym c.alone.ensures ∙ c.if-not-alone.true) in
+    tails_no (λ l later. alone_in l later && alone_in l ads) links c.loop-k.k _ c.loop-k.invariant 0 (search rules) no ∙ ap (λ xs. links_apart xs ads) c.links_of-links.ensures
 
-pub returns-else-distinct : goal.returns-else-distinct
-returns-else-distinct c =
-    let d : distinct_of (link_addresses_of c.args.t) ≡ false = rw c.links_of-links.ensures at (sym c.distinct.ensures ∙ c.if-distinct.false) in
-    c.if-distinct.false ∙ sym (rw (apart_twice (link_addresses_of c.args.t) c.args.addresses.now, d))
+pub loop-k-preserved : goal.loop-k-preserved
+loop-k-preserved c =
+    let ads : List ℕ = c.args.addresses.now in
+    let links : List ℕ = c.links_of-links.result in
+    let long : length links ≡ 128 = search rules in
+    let behind : take (128 - (c.loop-k.k + 1)) (drop (c.loop-k.k + 1) links) ≡ drop (c.loop-k.k + 1) links = take_all _ _ (rw length-drop (omega (arith, long))) in
+    let yes : (alone_in (get_or links c.loop-k.k 0) (drop (c.loop-k.k + 1) links) && alone_in (get_or links c.loop-k.k 0) ads) ≡ true = rw (← behind) (sym c.alone.ensures ∙ c.if-not-alone.false) in
+    tails_yes (λ l later. alone_in l later && alone_in l ads) links c.loop-k.k _ c.loop-k.invariant 0 (search rules) yes
+
+pub returns : goal.returns
+returns c =
+    tails_end (λ l later. alone_in l later && alone_in l c.args.addresses.now) c.links_of-links.result c.loop-k.k _ c.loop-k.invariant (search rules)
+    ∙ ap (λ xs. links_apart xs c.args.addresses.now) c.links_of-links.ensures

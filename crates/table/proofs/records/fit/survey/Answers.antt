@@ -5,8 +5,8 @@ use Rattle.std.proofs.lemmas.Iterator.{YieldsList-from_slice}
 use Rattle.std.proofs.lemmas.Iterator.Consumers.{YieldsList-at, YieldsList-from_filter, count_from_yields_List}
 use Rattle.std.proofs.lemmas.Iterator.Search.{all_from_yields_List, find_from_yields_List}
 use Rattle.peer.specs.Fit.{place_fits}
-use Rattle.peer.specs.Record.{is_joined, associates, free_of}
-use Rattle.table.proofs.Passes.Listed.{all_listed, count_listed, lent_joined, made_of}
+use Rattle.peer.specs.Record.{is_joined, associates}
+use Rattle.table.proofs.Passes.Listed.{all_listed, count_listed, lent_joined}
 use Rattle.table.specs.Fit.{crowd_of}
 use Rattle.table.specs.Places.{count_of}
 use Rattle.table.proofs.records.fit.survey.Goals as goal
@@ -23,5 +23,5 @@ returns c =
       all_from_yields_List (place_fits c.args.s) _ _ c.all.result c.all.ensures.ran (YieldsList-from_slice c.args.t cc) (λ x b q k. search (rules, tests)) ∙ sym (all_listed (place_fits c.args.s) c.args.t),
       rw (joined, associating),
       lent_joined c.args.t _ (find_from_yields_List is_joined _ _ c.find.result c.find.ensures.ran (YieldsList-from_slice c.args.t cc) (λ x b q k. search (rules, tests))) _ c.map_or.ensures (λ x q. search rules),
-      made_of (λ p. p.address) c.args.t c.map.result (search rules) (λ i d e h. let w = c.map.ensures.items.at i d e (search rules) in search (rules, tests)) free_of,
+      c.addresses_of.ensures,
     )
