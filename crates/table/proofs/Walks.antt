@@ -1,2 +1,3 @@
 pub mod Copied
+pub mod LentLaws
 pub mod LinkLists
